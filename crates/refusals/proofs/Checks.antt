@@ -1,0 +1,45 @@
+-- A call gives its value exactly if none of its checks bites.
+use mathlib.Core.Path.{_≡_, refl, sym, ap, _∙_}
+use mathlib.Core.List.{List, [], _∷_}
+use mathlib.Core.Bool.{Bool, true, false, cond}
+use mathlib.Core.Logic.{⊎-elim}
+use Rattle.std.specs.declared.result.Result.{Result}
+use Rattle.std.specs.declared.result.Result.the-variants.{Ok, Err}
+use Rattle.std.specs.Results.{isOk}
+use Rattle.std.specs.shelf.Lists.{All}
+use Rattle.std.proofs.shelf.Tests.{cond-false, cond-true, cases-bool, both-ways}
+use Rattle.refusals.specs.declared.Refusal.{Refusal}
+use Rattle.refusals.specs.Checks.{Checks, unless}
+
+-- no check bites
+abbrev pub Pass : Checks → Type 0
+Pass checks = All (λ (check : Bool × Refusal). check .0 ≡ false) checks
+
+pub unless-pass : {T : Type 0} (checks : Checks) (value : T) → Pass checks → unless checks value ≡ Ok value
+unless-pass [] value h = refl
+unless-pass (check ∷ later) value h = cond-false (check .0) _ _ (h .0) ∙ unless-pass later value (h .1)
+
+pub pass-from-ok : {T : Type 0} (checks : Checks) (value : T) → isOk (unless checks value) ≡ true → Pass checks
+pass-from-ok [] value h = tt
+pass-from-ok {T} (check ∷ later) value h =
+    ⊎-elim
+    (λ bites. absurd (both-ways (isOk {T = T} {E = Refusal} (Err (check .1))) refl (ap isOk (sym (cond-true (check .0) (Err (check .1)) (unless later value) bites)) ∙ h)))
+    (λ passes. (passes, pass-from-ok later value (ap isOk (sym (cond-false (check .0) (Err (check .1)) (unless later value) passes)) ∙ h)))
+    (cases-bool (check .0))
+
+-- which refusal is given does not depend on the value
+pub unless-err : {T U : Type 0} (checks : Checks) (value : T) (other : U) (r : Refusal) → unless checks value ≡ Err r → unless checks other ≡ Err r
+unless-err {T} {U} [] value other r h = absurd (both-ways (isOk {T = T} {E = Refusal} (Ok value)) (ap isOk h) refl)
+unless-err {T} {U} (check ∷ later) value other r h =
+    ⊎-elim
+    (λ bites.
+    let e : _≡_ {A = Result T Refusal} (Err (check .1)) (Err r) = sym (cond-true (check .0) (Err (check .1)) (unless later value) bites) ∙ h in
+    let same : check .1 ≡ r = cc in
+    cond-true (check .0) (Err (check .1)) (unless later other) bites ∙ ap (λ (x : Refusal). err x) same)
+    (λ passes.
+    cond-false (check .0) (Err (check .1)) (unless later other) passes
+    ∙ unless-err later value other r (sym (cond-false (check .0) (Err (check .1)) (unless later value) passes) ∙ h))
+    (cases-bool (check .0))
+  where
+    err : Refusal → Result U Refusal
+    err x = Err x

@@ -1,0 +1,4 @@
+pub mod Bytes
+pub mod Layout
+pub mod Report
+pub mod Sheets
