@@ -4,15 +4,16 @@ use mathlib.Core.List.{List}
 use mathlib.Core.Logic.{_⊎_, inl, inr}
 use mathlib.Core.Bool.{Bool, true, false, cond, _&&_}
 use Prim.Native.Nat.{ℕ, zero, suc, _+_, _-_, _*_, _/_, _%_, _^_, _≤_, _<_}
-use native.Mathlib.Nat.{add-zero, mod-lt, div-eq-of-lt, add-mul-div-right, pow-suc}
+use native.Mathlib.Nat.{add-zero, mod-lt, div-eq-of-lt, add-mul-div-right, pow-suc, zero-div}
 use native.Mathlib.Numerals.{one-add}
 use native.Mathlib.Omega.{arith}
 use lib.Arith.{digits-div}
 use lib.Bits.{bitAnd}
 use lib.Dec.{eqb}
-use lib.ListN.{getD}
+use lib.ListN.{length, getD}
 use lib.Pow.{pow-mono}
 use Rattle.std.proofs.shelf.Bits.{mod-pow-add, pow-pos, pow-add, one-shl, and-mask, and-shr, and-mod}
+use Rattle.std.proofs.shelf.Lists.{getD-past}
 use Rattle.std.proofs.shelf.Tests.{cases-eq}
 use Rattle.bitmap.specs.Bits.{packed, validAt}
 
@@ -95,3 +96,8 @@ packed-both xs ys k (suc j) h =
     rw (d, m) in
     let b = both-bits (getD xs k 0 / 2 ^ j % 2) (getD ys k 0 / 2 ^ j % 2) (2 ^ j) (mod-lt _ (omega arith)) (mod-lt _ (omega arith)) in
     omega (arith, and-more (getD xs k 0) (getD ys k 0) j, packed-both xs ys k j (omega arith))
+
+-- no row past the bytes is valid
+pub valid-past : (bytes : List ℕ) (i : ℕ) → length bytes ≤ i / 8 → validAt bytes i ≡ false
+valid-past bytes i h =
+    ap (λ (b : ℕ). eqb (b / 2 ^ (i % 8) % 2) 1) (getD-past bytes (i / 8) 0 h) ∙ ap (λ (q : ℕ). eqb (q % 2) 1) (zero-div (2 ^ (i % 8)))

@@ -49,6 +49,13 @@ impl<'a> Validity<'a> {
         self.rows
     }
 
+    // The bytes that the map was made of.
+    pub fn bytes(&self) -> &'a [u8]
+        ensures { λ r. ⌜ ((i : ℕ) → validAt (now r) i ≡ rowValid (now (self .entry)) i) ⌝ }
+    {
+        self.bytes
+    }
+
     // Whether row i is valid.
     pub fn is_valid(&self, i: usize) -> Result<bool, Refusal>
         ensures { λ r. ⌜ r ≡ unless (rowChecks (now (self .entry)) i) (rowValid (now (self .entry)) i) ⌝ }
@@ -56,7 +63,7 @@ impl<'a> Validity<'a> {
         if i >= self.rows {
             return Err(Refusal::IndexOutOfRange);
         }
-        Ok((self.bytes[i / 8] >> (i % 8)) & 1 == 1)
+        Ok(get_bit(self.bytes, 0, i))
     }
 
     // How many rows are null: eight bytes at a time, then whole bytes, then the tail under a mask.
@@ -87,6 +94,18 @@ impl<'a> Validity<'a> {
         write_both(self.bytes, other.bytes, self.rows, out);
         Ok(size)
     }
+}
+
+// Whether bit start + i of the bytes is set, lowest bit of the first byte first; no bit past their end is.
+pub fn get_bit(bytes: &[u8], start: usize, i: usize) -> bool
+    ensures { λ r. ⌜ r ≡ validAt (now (bytes .entry)) (start + i) ⌝ }
+{
+    let low = start % 8 + i % 8;
+    let byte = start / 8 + i / 8 + low / 8;
+    if byte >= bytes.len() {
+        return false;
+    }
+    (bytes[byte] >> (low % 8)) & 1 == 1
 }
 
 // How many rows of the first so many words, each of eight bytes, are valid.

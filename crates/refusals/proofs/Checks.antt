@@ -3,12 +3,15 @@ use mathlib.Core.Path.{_≡_, refl, sym, ap, _∙_}
 use mathlib.Core.List.{List, [], _∷_}
 use mathlib.Core.Bool.{Bool, true, false, cond}
 use mathlib.Core.Logic.{⊎-elim}
+use Prim.Native.Nat.{ℕ, _<_}
+use lib.Dec.{leb}
 use Rattle.std.specs.declared.result.Result.{Result}
 use Rattle.std.specs.declared.result.Result.the-variants.{Ok, Err}
 use Rattle.std.specs.Results.{isOk}
 use Rattle.std.specs.shelf.Lists.{All}
-use Rattle.std.proofs.shelf.Tests.{cond-false, cond-true, cases-bool, both-ways}
+use Rattle.std.proofs.shelf.Tests.{cond-false, cond-true, cases-bool, both-ways, lt-leb}
 use Rattle.refusals.specs.declared.Refusal.{Refusal}
+use Rattle.refusals.specs.declared.Refusal.the-variants.{IndexOutOfRange}
 use Rattle.refusals.specs.Checks.{Checks, unless}
 
 -- no check bites
@@ -43,3 +46,10 @@ unless-err {T} {U} (check ∷ later) value other r h =
   where
     err : Refusal → Result U Refusal
     err x = Err x
+
+-- a row that is there
+pub ok-within : {T : Type 0} (rows i : ℕ) (value other : T) → i < rows → value ≡ other → Ok value ≡ unless ((leb rows i, IndexOutOfRange) ∷ []) other
+ok-within {T} rows i value other within same = ap ok same ∙ sym (cond-false (leb rows i) (Err IndexOutOfRange) (Ok other) (lt-leb rows i within))
+  where
+    ok : T → Result T Refusal
+    ok x = Ok x

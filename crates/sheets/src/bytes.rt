@@ -4,14 +4,14 @@ ghost use Prim.Native.Nat.{_+_, _≤_};
 ghost use lib.ListN.{length};
 ghost use Rattle.sheets.specs.Bytes.{le4, le8};
 
-pub fn read_u32(bytes: &[u8], p: usize) -> u32
+pub(crate) fn read_u32(bytes: &[u8], p: usize) -> u32
     requires { ⌜ p + 4 ≤ length (now bytes) ⌝ }
     ensures { λ r. ⌜ r ≡ le4 (now (bytes .entry)) p ⌝ }
 {
     u32::from_le_bytes([bytes[p], bytes[p + 1], bytes[p + 2], bytes[p + 3]])
 }
 
-pub fn read_u64(bytes: &[u8], p: usize) -> u64
+pub(crate) fn read_u64(bytes: &[u8], p: usize) -> u64
     requires { ⌜ p + 8 ≤ length (now bytes) ⌝ }
     ensures { λ r. ⌜ r ≡ le8 (now (bytes .entry)) p ⌝ }
 {

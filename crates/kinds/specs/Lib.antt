@@ -1,0 +1,5 @@
+pub mod Orders
+pub mod Patterns
+pub mod Texts
+pub mod TextBytes
+pub mod Hashes
