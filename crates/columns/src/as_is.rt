@@ -22,11 +22,11 @@ impl<'a, K: Copy> ListColumn<'a, K> {
         if self.map.null_count() == 0 {
             let from = self.start(0);
             let to = self.start(rows);
-            return Some(self.part(from, to));
+            return Some(self.cut(from, to));
         }
         let first = self.first_valid();
         if first == rows {
-            return Some(self.part(0, 0));
+            return Some(self.cut(0, 0));
         }
         let past = self.past_valid();
         if !self.whole_between(first, past) {
@@ -34,7 +34,7 @@ impl<'a, K: Copy> ListColumn<'a, K> {
         }
         let from = self.start(first);
         let to = self.start(past);
-        Some(self.part(from, to))
+        Some(self.cut(from, to))
     }
 
     // The first valid row, or the number of rows.

@@ -116,7 +116,7 @@ impl<'a, K: Copy> ListColumn<'a, K> {
         }
         let from = self.start(i);
         let to = self.start(i + 1);
-        Ok(Some(self.part(from, to)))
+        Ok(Some(self.cut(from, to)))
     }
 
     // Where row i starts, or for the number of rows where the last one ends.
@@ -128,7 +128,7 @@ impl<'a, K: Copy> ListColumn<'a, K> {
         self.offsets[i] as usize
     }
 
-    pub(crate) fn part(&self, from: usize, to: usize) -> Part<'a, K>
+    pub(crate) fn cut(&self, from: usize, to: usize) -> Part<'a, K>
         requires { ⌜ from ≤ to ⌝ ∗ ⌜ to ≤ length (now (now self .cells .cues)) ⌝ }
         ensures { λ r. ⌜ PartOf (now (self .entry)) from to r ⌝ }
     {

@@ -13,8 +13,8 @@ use Rattle.columns.proofs.Merging.{first-found, past-found}
 use Rattle.columns.proofs.Rules.{start-rises}
 use Rattle.columns.proofs.column.ListColumn.get_optional_values_to_merge_as_is.Needs as need
 
-pub part-requires : need.part-requires
-part-requires g c κs =
+pub cut-requires : need.cut-requires
+cut-requires g c κs =
     let rows = c .rows-rows .ensures in
     let low = c .start-from .ensures .value in
     let high = c .start-to .ensures .value in
@@ -26,8 +26,8 @@ returns-then-null-count-eq0 g c =
     let all = none-null (c .args .self .now .map) (sym (c .null-count .ensures) ∙ c .if-null-count-eq0 .taken) in
     let high = c .start-to .ensures .value ∙ ap (startOf (c .args .self .now .offsets .now)) (c .rows-rows .ensures) in
     record {
-      part = given-whole (c .args .self .now) (c .part .result) (c .start-from .result) (c .start-to .result) all (c .start-from .ensures .value) high (c .part .ensures);
-      joined = joined-whole (c .args .self .now) (c .part .result) (c .start-from .result) (c .start-to .result) all (c .start-from .ensures .value) high (c .part .ensures);
+      part = given-whole (c .args .self .now) (c .cut .result) (c .start-from .result) (c .start-to .result) all (c .start-from .ensures .value) high (c .cut .ensures);
+      joined = joined-whole (c .args .self .now) (c .cut .result) (c .start-from .result) (c .start-to .result) all (c .start-from .ensures .value) high (c .cut .ensures);
     }
 
 pub returns-then-first-rows : need.returns-then-first-rows
@@ -36,8 +36,8 @@ returns-then-first-rows g c =
     let first = c .if-first-rows .taken in
     let none : (k : ℕ) → k < columnRows (c .args .self .now) → rowValid (c .args .self .now .map) k ≡ false = λ k h. c .first-valid-first .ensures .before k (omega arith) in
     record {
-      part = given-null (c .args .self .now) (c .part-then-first-rows .result) (some-rows (c .args .self .now .map) (λ e. c .if-null-count-eq0 .left (c .null-count .ensures ∙ e))) none (c .part-then-first-rows .ensures);
-      joined = joined-null (c .args .self .now) (c .part-then-first-rows .result) none (c .part-then-first-rows .ensures);
+      part = given-null (c .args .self .now) (c .cut-then-first-rows .result) (some-rows (c .args .self .now .map) (λ e. c .if-null-count-eq0 .left (c .null-count .ensures ∙ e))) none (c .cut-then-first-rows .ensures);
+      joined = joined-null (c .args .self .now) (c .cut-then-first-rows .result) none (c .cut-then-first-rows .ensures);
     }
 
 pub returns-then-not-whole-between : need.returns-then-not-whole-between
@@ -58,8 +58,8 @@ returns-then-not-whole-between g c =
       joined = gap-there (c .args .self .now) (c .first-valid-first .result) (c .past-valid-past .result) within found (omega arith) under (last (omega arith)) (hole .0) (hole .1) (hole .2) (hole .3);
     }
 
-pub part-requires-2 : need.part-requires-2
-part-requires-2 g c κs =
+pub cut-requires-2 : need.cut-requires-2
+cut-requires-2 g c κs =
     let rows = c .rows-rows .ensures in
     let within : c .first-valid-first .result < columnRows (c .args .self .now) = at-most-not (c .first-valid-first .result) (columnRows (c .args .self .now)) (c .first-valid-first .ensures .bound) (λ e. c .if-first-rows .left (e ∙ sym rows)) in
     let order =
@@ -87,9 +87,9 @@ returns g c =
     let inside = c .if-not-whole-between .ensures tt in
     record {
       part =
-          given-run (c .args .self .now) (c .part-2 .result) (c .first-valid-first .result) (c .past-valid-past .result) (c .start-from-2 .result) (c .start-to-2 .result) within first-is past-is inside
-          (c .start-from-2 .ensures .value) (c .start-to-2 .ensures .value) (c .part-2 .ensures);
+          given-run (c .args .self .now) (c .cut-2 .result) (c .first-valid-first .result) (c .past-valid-past .result) (c .start-from-2 .result) (c .start-to-2 .result) within first-is past-is inside
+          (c .start-from-2 .ensures .value) (c .start-to-2 .ensures .value) (c .cut-2 .ensures);
       joined =
-          joined-run (c .args .self .now) (c .part-2 .result) (c .first-valid-first .result) (c .past-valid-past .result) (c .start-from-2 .result) (c .start-to-2 .result) (omega arith) under before after inside
-          (c .start-from-2 .ensures .value) (c .start-to-2 .ensures .value) (c .part-2 .ensures);
+          joined-run (c .args .self .now) (c .cut-2 .result) (c .first-valid-first .result) (c .past-valid-past .result) (c .start-from-2 .result) (c .start-to-2 .result) (omega arith) under before after inside
+          (c .start-from-2 .ensures .value) (c .start-to-2 .ensures .value) (c .cut-2 .ensures);
     }

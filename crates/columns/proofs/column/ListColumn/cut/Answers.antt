@@ -3,7 +3,7 @@ use Rattle.std.specs.shelf.Lists.{between}
 use Rattle.bitmap.specs.Bits.{validAt}
 use Rattle.bitmap.specs.Maps.{rowValid}
 use Rattle.columns.proofs.Reading.{between-cells, cells-same}
-use Rattle.columns.proofs.column.ListColumn.part.Needs as need
+use Rattle.columns.proofs.column.ListColumn.cut.Needs as need
 
 pub returns : need.returns
 returns g c = record {
