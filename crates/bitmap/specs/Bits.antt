@@ -1,5 +1,5 @@
--- A validity map over bytes, as Arrow's columnar format has it: row i has bit i mod 8 of byte i div 8, lowest bit first,
--- and a set bit means valid.
+-- A validity map over bytes, as Arrow's columnar format has it: eight rows to a byte, the first of them in the lowest bit,
+-- and a row's bit is set where the row is valid.
 use mathlib.Core.List.{List, map}
 use mathlib.Core.Bool.{Bool, cond}
 use Prim.Native.Nat.{ℕ, zero, suc, min, _+_, _-_, _*_, _/_, _%_, _^_}
@@ -20,6 +20,6 @@ abbrev pub packed : (ℕ → Bool) → ℕ → ℕ → ℕ
 packed f start zero = 0
 packed f start (suc n) = packed f start n + cond (f (start + n)) (2 ^ n) 0
 
--- the bytes of the map of so many rows, of which f says which are valid; the last byte's spare bits are zero
+-- the bytes of the map of so many rows, of which f says which are valid; bits past the last row are clear
 abbrev pub mapOf : (ℕ → Bool) → ℕ → List ℕ
 mapOf f rows = map (λ k. packed f (8 * k) (min 8 (rows - 8 * k))) (counting 0 (bytesFor rows))

@@ -28,7 +28,7 @@ validRows m = map (rowValid m) (counting 0 (rowCount m))
 abbrev pub nullCount : Validity → ℕ
 nullCount m = countBy not (validRows m)
 
--- a united map's row is null exactly if either map says so
+-- in a united map a row is valid where both maps call it so
 abbrev pub bothValid : Validity → Validity → ℕ → Bool
 bothValid a b i = rowValid a i && rowValid b i
 
@@ -48,7 +48,7 @@ abbrev pub uniteChecks : Validity → Validity → List ℕ → Checks
 uniteChecks a b out = (not (eqb (rowCount a) (rowCount b)), CountsDiffer) ∷ (ltb (length out) (bytesFor (rowCount a)), OutputTooShort) ∷ []
 
 -- a map of so many rows, of which f says which are valid, was written over the front of a buffer: each row reads as f says,
--- the last byte's spare bits are zero, and the bytes past the map are as they were
+-- bits past the last row are clear, and the bytes past the map are as they were
 pub record MapWritten (f : ℕ → Bool) (rows : ℕ) (before after : List ℕ) : Type 0 where
   pub reads : (i : ℕ) → i < rows → validAt after i ≡ f i
   pub spare : (i : ℕ) → rows ≤ i → i < 8 * bytesFor rows → validAt after i ≡ false

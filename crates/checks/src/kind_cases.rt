@@ -42,7 +42,7 @@ const IN_ORDER: [u64; 16] = [
 
 const SIGNED: [i64; 5] = [i64::MIN, -1, 0, 1, i64::MAX];
 
-// Texts in byte order: a prefix before the longer text, zero bytes inside and at the end, bytes above 127.
+// Texts in byte order: some that begin alike, zero bytes inside and at the end, bytes above 127.
 const WORDS: [&[u8]; 8] = [b"", b"\0", b"\0a", b"a", b"a\0", b"aa", b"b", b"\xff"];
 
 // What two places of a row in order are to each other.

@@ -185,7 +185,7 @@ fn modules_beyond_the_count_are_refused(rt: LibcRuntime) -> Result<(), Fail> {
 fn refusals_print_their_number_and_sentence(rt: LibcRuntime) -> Result<(), Fail> {
     let heap = rt.alloc();
     let line = format!(heap, "{}", Refusal::ModuleOutOfRange)?;
-    check(line.as_str() == "refused 11: a module number is not below the module count")?;
+    check(line.as_str() == "refused 11: a row or list names a module beyond the module count")?;
     check_eq(Refusal::StoreTooLong.number(), 1)?;
     check_eq(Refusal::OutputTooShort.number(), 17)
 }

@@ -4,7 +4,7 @@ use Prim.Native.Nat.{ℕ}
 use Rattle.columns.specs.declared.cell.Cell.{Cell}
 use Rattle.columns.specs.declared.cell.Cell.the-variants.{Null, Cue}
 
--- both are null, or neither is and their cues are equal
+-- two nulls are equal, and two cues that their kind calls equal; a null equals no cue
 abbrev pub sameCell : {K : Type 0} → (K → K → Bool) → Cell K → Cell K → Bool
 sameCell same Null Null = true
 sameCell same Null (Cue b) = false

@@ -54,9 +54,9 @@ abbrev pub wholeFrom : (ℕ → Bool) → List ℤ → ℕ → ℕ → Bool
 wholeFrom valid offsets from zero = true
 wholeFrom valid offsets from (suc n) = wholeFrom valid offsets from n && (ltb n from || whole valid offsets n)
 
--- where the part that can be merged as it stands begins and ends. Without rows it is empty, at the first offset. Where all
--- rows are null it is empty, at place 0. Else it runs from the first valid row's start to the last one's end, and there is
--- none if a null row between them covers a cell
+-- where the part that can be merged as it stands begins and ends. A column of no rows has an empty one at its first offset,
+-- and a column of null rows an empty one at 0. Any other has the stretch from its first valid row to its last, unless a null
+-- row in that stretch has cells
 abbrev pub mergeSpan : (ℕ → Bool) → List ℤ → ℕ → Option (ℕ × ℕ)
 mergeSpan valid offsets rows =
     cond (eqb rows 0)

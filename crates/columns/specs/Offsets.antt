@@ -1,4 +1,4 @@
--- The offsets of a list column: row i covers the cells from offset i to before offset i + 1.
+-- The offsets of a list column: offset i is where row i starts, and the next one where it ends.
 use mathlib.Core.Path.{_≡_}
 use mathlib.Core.List.{List}
 use mathlib.Core.Bool.{Bool, true, _&&_}

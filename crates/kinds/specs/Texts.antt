@@ -12,7 +12,7 @@ sameBytes [] (y ∷ ys) = false
 sameBytes (x ∷ xs) [] = false
 sameBytes (x ∷ xs) (y ∷ ys) = eqb x y && sameBytes xs ys
 
--- byte by byte, a prefix before the longer text
+-- by the first byte that differs; of two texts without one, the shorter comes first
 abbrev pub orderBytes : List ℕ → List ℕ → Ordering
 orderBytes [] [] = Equal
 orderBytes [] (y ∷ ys) = Less

@@ -1,4 +1,4 @@
-// A whole cue: a signed 64-bit number, in numeric order.
+// A whole cue: an integer that fits an i64, ordered by value.
 ghost use lib.IntN.{pos};
 ghost use mir.Syntax.{w64};
 ghost use mir.Val.{ofZ};

@@ -1,4 +1,4 @@
--- A call gives its value exactly if none of its checks bites.
+-- A call gives its value exactly if none of its checks applies.
 use mathlib.Core.Path.{_≡_, refl, sym, ap, _∙_}
 use mathlib.Core.List.{List, [], _∷_}
 use mathlib.Core.Bool.{Bool, true, false, cond}
@@ -14,7 +14,7 @@ use Rattle.refusals.specs.declared.Refusal.{Refusal}
 use Rattle.refusals.specs.declared.Refusal.the-variants.{IndexOutOfRange}
 use Rattle.refusals.specs.Checks.{Checks, unless}
 
--- no check bites
+-- no check applies
 abbrev pub Pass : Checks → Type 0
 Pass checks = All (λ (check : Bool × Refusal). check .0 ≡ false) checks
 
@@ -26,7 +26,7 @@ pub pass-from-ok : {T : Type 0} (checks : Checks) (value : T) → isOk (unless c
 pass-from-ok [] value h = tt
 pass-from-ok {T} (check ∷ later) value h =
     ⊎-elim
-    (λ bites. absurd (both-ways (isOk {T = T} {E = Refusal} (Err (check .1))) refl (ap isOk (sym (cond-true (check .0) (Err (check .1)) (unless later value) bites)) ∙ h)))
+    (λ applies. absurd (both-ways (isOk {T = T} {E = Refusal} (Err (check .1))) refl (ap isOk (sym (cond-true (check .0) (Err (check .1)) (unless later value) applies)) ∙ h)))
     (λ passes. (passes, pass-from-ok later value (ap isOk (sym (cond-false (check .0) (Err (check .1)) (unless later value) passes)) ∙ h)))
     (cases-bool (check .0))
 
@@ -35,10 +35,10 @@ pub unless-err : {T U : Type 0} (checks : Checks) (value : T) (other : U) (r : R
 unless-err {T} {U} [] value other r h = absurd (both-ways (isOk {T = T} {E = Refusal} (Ok value)) (ap isOk h) refl)
 unless-err {T} {U} (check ∷ later) value other r h =
     ⊎-elim
-    (λ bites.
-    let e : _≡_ {A = Result T Refusal} (Err (check .1)) (Err r) = sym (cond-true (check .0) (Err (check .1)) (unless later value) bites) ∙ h in
+    (λ applies.
+    let e : _≡_ {A = Result T Refusal} (Err (check .1)) (Err r) = sym (cond-true (check .0) (Err (check .1)) (unless later value) applies) ∙ h in
     let same : check .1 ≡ r = cc in
-    cond-true (check .0) (Err (check .1)) (unless later other) bites ∙ ap (λ (x : Refusal). err x) same)
+    cond-true (check .0) (Err (check .1)) (unless later other) applies ∙ ap (λ (x : Refusal). err x) same)
     (λ passes.
     cond-false (check .0) (Err (check .1)) (unless later other) passes
     ∙ unless-err later value other r (sym (cond-false (check .0) (Err (check .1)) (unless later value) passes) ∙ h))

@@ -36,7 +36,7 @@ sentenceOf CountsDiffer = codes "the parts of a column differ in their number of
 sentenceOf MapTooShort = codes "the validity map has too few bytes for its rows"
 sentenceOf BadOffsets = codes "the offsets of the list column are not in order"
 sentenceOf TotalTooLarge = codes "the total is above 65536 modules"
-sentenceOf ModuleOutOfRange = codes "a module number is not below the module count"
+sentenceOf ModuleOutOfRange = codes "a row or list names a module beyond the module count"
 sentenceOf NoRoom = codes "the store has no room for what the call brings"
 sentenceOf TooManyLive = codes "more than 1048576 cues would be live"
 sentenceOf NotLive = codes "a retracted cue is not live that often"
@@ -44,6 +44,6 @@ sentenceOf FirstTooLarge = codes "there are fewer modules than lists asked for"
 sentenceOf IndexOutOfRange = codes "no row or list has that number"
 sentenceOf OutputTooShort = codes "the output buffer is too short for the result"
 
--- as in "refused 11: a module number is not below the module count"
+-- as in "refused 11: a row or list names a module beyond the module count"
 abbrev pub lineOf : Refusal → List ℕ
 lineOf r = codes "refused " ++ (decimal (numberOf r) ++ (codes ": " ++ sentenceOf r))

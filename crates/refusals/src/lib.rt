@@ -58,7 +58,7 @@ impl Refusal {
             Refusal::MapTooShort => "the validity map has too few bytes for its rows",
             Refusal::BadOffsets => "the offsets of the list column are not in order",
             Refusal::TotalTooLarge => "the total is above 65536 modules",
-            Refusal::ModuleOutOfRange => "a module number is not below the module count",
+            Refusal::ModuleOutOfRange => "a row or list names a module beyond the module count",
             Refusal::NoRoom => "the store has no room for what the call brings",
             Refusal::TooManyLive => "more than 1048576 cues would be live",
             Refusal::NotLive => "a retracted cue is not live that often",
