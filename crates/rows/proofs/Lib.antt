@@ -1,0 +1,4 @@
+pub mod Halving
+pub mod Laws
+pub mod Rotating
+pub mod Turning

@@ -1,0 +1,4 @@
+pub mod Orders
+pub mod Rings
+pub mod Shifts
+pub mod Sorted
