@@ -1,5 +1,5 @@
 -- What is given as the part to merge as it stands, from where the first and the last valid row are.
-use mathlib.Core.Path.{_≡_, refl, sym, ap, subst, _∙_}
+use mathlib.Core.Path.{_≡_, sym, ap, subst, _∙_}
 use mathlib.Core.List.{List, map}
 use mathlib.Core.Logic.{_⊎_, inl, inr, ⊎-elim}
 use mathlib.Core.Bool.{Bool, true, false, cond, not}
@@ -10,7 +10,6 @@ use lib.IntN.{ℤ}
 use lib.ListN.{length}
 use Rattle.std.specs.Iters.{counting}
 use Rattle.std.specs.shelf.Lists.{between}
-use Rattle.std.specs.declared.option.Option.{Option}
 use Rattle.std.specs.declared.option.Option.the-variants.{Some, None}
 use Rattle.std.proofs.shelf.Counted.{getD-map-counting, length-map-counting}
 use Rattle.std.proofs.shelf.Edits.{between-none}
@@ -21,7 +20,7 @@ use Rattle.bitmap.specs.Maps.{nullCount, rowCount, rowValid}
 use Rattle.columns.specs.declared.column.ListColumn.{ListColumn}
 use Rattle.columns.specs.declared.column.Part.{Part}
 use Rattle.columns.specs.Columns.{PartOf, cellsIn, columnRows, partCells}
-use Rattle.columns.specs.Merging.{ColumnGap, Gap, RowCovers, RowWhole, columnSpan, firstValid, mergeSpan, mergedCells, pastValid, wholeFrom}
+use Rattle.columns.specs.Merging.{ColumnGap, RowCovers, RowWhole, columnSpan, firstValid, mergeSpan, mergedCells, pastValid, wholeFrom}
 use Rattle.columns.specs.Offsets.{startOf}
 use Rattle.columns.proofs.Making.{column-good}
 use Rattle.columns.proofs.Merging.{first-found, first-none, gap-not, merged-run, past-found, valid-none, whole-from, whole-not}

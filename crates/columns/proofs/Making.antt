@@ -1,9 +1,9 @@
 -- The checks of a list column pass exactly if its parts keep the rules, and what is made of them reads as they do.
-use mathlib.Core.Path.{_≡_, refl, sym, ap, _∙_}
+use mathlib.Core.Path.{_≡_, ap, _∙_}
 use mathlib.Core.List.{List}
 use mathlib.Core.Bool.{Bool, cond}
 use Prim.Native.Nat.{ℕ, _+_}
-use lib.Dec.{eqb, ltb}
+use lib.Dec.{ltb}
 use lib.IntN.{ℤ}
 use lib.ListN.{length}
 use Rattle.std.specs.Orderings.{Decides}
@@ -20,7 +20,7 @@ use Rattle.columns.specs.declared.cell.Cell.{Cell}
 use Rattle.columns.specs.declared.column.ColumnParts.{ColumnParts}
 use Rattle.columns.specs.declared.column.ListColumn.{ListColumn}
 use Rattle.columns.specs.Columns.{GoodColumn, columnChecks, listIn}
-use Rattle.columns.specs.Offsets.{GoodOffsets, offsetsKeep, startOf}
+use Rattle.columns.specs.Offsets.{GoodOffsets, startOf}
 use Rattle.columns.proofs.Rules.{offsets-decide}
 
 module _ {K : Type 0} (p : ColumnParts K) where

@@ -2,13 +2,12 @@
 use mathlib.Core.Path.{_≡_, refl, sym, ap, _∙_}
 use mathlib.Core.List.{List, [], _∷_}
 use mathlib.Core.Bool.{Bool, true, false, cond}
-use Prim.Native.Nat.{ℕ, zero, suc, _+_, _-_, _≤_, _<_}
+use Prim.Native.Nat.{ℕ, zero, suc, _+_, _-_, _<_}
 use native.Mathlib.Nat.{add-zero}
 use native.Mathlib.Omega.{arith}
 use lib.ListN.{length, getD, take, drop}
 use Rattle.std.specs.shelf.Lists.{between}
 use Rattle.std.proofs.shelf.Tests.{cond-true, cond-false}
-use Rattle.columns.specs.declared.cell.Cell.{Cell}
 use Rattle.columns.specs.declared.cell.Cell.the-variants.{Null, Cue}
 use Rattle.columns.specs.Cells.{cellsFrom}
 

@@ -6,8 +6,7 @@ use Prim.Native.Nat.{ℕ, _+_, _≤_}
 use lib.Dec.{eqb, ltb, leb}
 use lib.IntN.{ℤ}
 use lib.ListN.{length}
-use Rattle.std.specs.Iters.{counting}
-use Rattle.std.specs.shelf.Lists.{between, joined}
+use Rattle.std.specs.shelf.Lists.{between}
 use Rattle.std.specs.declared.option.Option.{Option}
 use Rattle.std.specs.declared.option.Option.the-variants.{Some, None}
 use Rattle.std.specs.declared.result.Result.{Result}

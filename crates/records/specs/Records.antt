@@ -1,6 +1,5 @@
 -- Records: their lists by group, and what remains of them when the first groups go.
 use mathlib.Core.List.{List, map}
-use mathlib.Core.Bool.{Bool}
 use Prim.Native.Nat.{ℕ, _-_}
 use lib.Dec.{eqb, leb}
 use Rattle.std.specs.shelf.Lists.{kept-by}

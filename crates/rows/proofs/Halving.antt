@@ -5,7 +5,7 @@ use mathlib.Core.Logic.{⊎-elim}
 use mathlib.Core.Bool.{Bool}
 use Prim.Native.Nat.{ℕ, _+_, _≤_, _<_}
 use native.Mathlib.Omega.{arith}
-use lib.IntN.{ℤ, pos, negsuc, negℤ}
+use lib.IntN.{ℤ, pos, negℤ}
 use lib.ListN.{length, getD, take}
 use lib.Signed.{_≤ℤ_}
 use Rattle.std.proofs.shelf.Lists.{getD-read, getD-take}
@@ -17,7 +17,7 @@ use Rattle.columns.specs.declared.cell.Cell.{Cell}
 use Rattle.rows.specs.declared.order.SortOptions.{SortOptions}
 use Rattle.rows.specs.Orders.{LawfulCells, orderCells}
 use Rattle.rows.specs.declared.counted.Counted.{Counted}
-use Rattle.rows.specs.Sorted.{Place, Rising}
+use Rattle.rows.specs.Sorted.{Rising}
 
 -- the cells below a place come before a cell
 abbrev pub Before : {K : Type 0} → (Cell K → Cell K → Ordering) → List (Counted K) → Cell K → ℕ → Type 0

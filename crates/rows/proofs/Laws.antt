@@ -1,13 +1,11 @@
 -- The order of cells keeps the laws of an ordered kind, if the order of their cues does.
 use mathlib.Core.Path.{_≡_, refl, sym, ap, subst, _∙_}
 use mathlib.Core.Bool.{Bool, true, false, cond, not}
-use native.Mathlib.Omega.{arith}
-use lib.IntN.{ℤ, pos, negsuc, negℤ}
+use lib.IntN.{ℤ, pos, negℤ}
 use lib.Signed.{_≤ℤ_}
 use Rattle.std.specs.Orderings.{reversed}
 use Rattle.std.specs.declared.cmp.Ordering.{Ordering}
 use Rattle.std.specs.declared.cmp.Ordering.the-variants.{Less, Equal, Greater}
-use Rattle.std.proofs.shelf.Signed.{ints}
 use Rattle.kinds.specs.Orders.{sign}
 use Rattle.columns.specs.declared.cell.Cell.{Cell}
 use Rattle.columns.specs.declared.cell.Cell.the-variants.{Null, Cue}

@@ -1,5 +1,4 @@
 // Where a cell belongs in a row of counted cells that is kept in order.
-ghost use mathlib.Core.Path.{_≡_};
 ghost use Prim.Native.Nat.{_≤_};
 ghost use lib.ListN.{length, take};
 ghost use Rattle.rows.specs.Orders.{orderCells};

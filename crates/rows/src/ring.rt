@@ -1,8 +1,8 @@
 // A ring over a lent slice: values come in behind the last and go from the front, and none moves.
 ghost use mathlib.Core.Path.{_≡_};
 ghost use mathlib.Core.List.{[], _++_, _∷_};
-ghost use Prim.Native.Nat.{ℕ, _+_, _-_, _≤_, _<_};
-ghost use lib.ListN.{drop, getD, length, set};
+ghost use Prim.Native.Nat.{_+_, _-_, _≤_, _<_};
+ghost use lib.ListN.{drop, length, set};
 ghost use Rattle.rows.specs.Rings.{live, placeAt};
 
 // The place that lies k places on from the start.

@@ -1,7 +1,6 @@
 -- The checks of a sheet pass exactly if its bytes keep the rules.
-use mathlib.Core.Path.{_≡_, refl, sym, ap, _∙_}
+use mathlib.Core.Path.{_≡_, sym, ap, _∙_}
 use mathlib.Core.List.{List}
-use mathlib.Core.Bool.{true, not}
 use Prim.Native.Nat.{ℕ, _*_, _≤_}
 use lib.Dec.{eqb, ltb}
 use lib.ListN.{length}

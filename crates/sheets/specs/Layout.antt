@@ -1,9 +1,9 @@
 -- Where a sheet's parts lie in its bytes: a header of two sizes, then the body, a word for each row and then a cue for each row.
 use mathlib.Core.List.{List}
-use Prim.Native.Nat.{ℕ, _+_, _*_, _%_, _≤_, _<_}
+use Prim.Native.Nat.{ℕ, _*_, _%_, _≤_, _<_}
 use lib.ListN.{length, drop}
 use mathlib.Core.Path.{_≡_}
-use Rattle.sheets.specs.Bytes.{le4, le8}
+use Rattle.sheets.specs.Bytes.{le4}
 
 abbrev pub rowsIn : List ℕ → ℕ
 rowsIn bytes = le4 bytes 0

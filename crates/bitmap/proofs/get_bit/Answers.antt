@@ -1,13 +1,10 @@
 -- The bit that the code shifts down and masks is the one that the definition reads.
 use mathlib.Core.Path.{_≡_, sym, ap, _∙_}
-use mathlib.Core.List.{List}
-use mathlib.Core.Bool.{Bool}
-use Prim.Native.Nat.{ℕ, _+_, _/_, _%_, _^_, _≤_}
+use Prim.Native.Nat.{ℕ, _+_, _/_, _%_, _^_}
 use native.Mathlib.Omega.{arith}
 use lib.Dec.{eqb}
-use lib.ListN.{length, getD}
+use lib.ListN.{getD}
 use Rattle.std.proofs.shelf.Bits.{and-mask}
-use Rattle.bitmap.specs.Bits.{validAt}
 use Rattle.bitmap.proofs.Bits.{valid-past}
 use Rattle.bitmap.proofs.get_bit.Needs as need
 

@@ -1,4 +1,3 @@
-use Prim.Native.Nat.{ℕ}
 use native.Mathlib.Omega.{arith}
 use Rattle.sheets.specs.Layout.{moduleAt}
 use Rattle.sheets.proofs.Below.{below-all, below-not}

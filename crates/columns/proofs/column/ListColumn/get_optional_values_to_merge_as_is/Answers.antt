@@ -1,15 +1,13 @@
-use mathlib.Core.Path.{_≡_, sym, ap, subst, _∙_}
-use mathlib.Core.Bool.{true, false}
-use Prim.Native.Nat.{ℕ, _-_, _+_, _≤_, _<_}
+use mathlib.Core.Path.{_≡_, sym, ap, _∙_}
+use mathlib.Core.Bool.{false}
+use Prim.Native.Nat.{ℕ, _-_, _<_}
 use native.Mathlib.Omega.{arith}
 use lib.ListN.{length}
 use Rattle.bitmap.specs.Maps.{rowValid}
 use Rattle.columns.specs.Columns.{columnRows}
-use Rattle.columns.specs.Merging.{firstValid, pastValid}
 use Rattle.columns.specs.Offsets.{startOf}
 use Rattle.columns.proofs.AsIs.{at-most-not, ends-first, ends-order, ends-past, gap-none, gap-there, given-null, given-run, given-whole, joined-null, joined-run, joined-whole, none-null, some-rows}
 use Rattle.columns.proofs.Making.{column-good}
-use Rattle.columns.proofs.Merging.{first-found, past-found}
 use Rattle.columns.proofs.Rules.{start-rises}
 use Rattle.columns.proofs.column.ListColumn.get_optional_values_to_merge_as_is.Needs as need
 
