@@ -1,4 +1,6 @@
 // Validity maps: read, counted, written and united.
+#![tactic(auto)]
+
 mod validity;
 
 ghost use Rattle.std.specs.Prelude.{◌≡◌, ℕ, ◌+◌, ◌-◌, ◌*◌, ◌/◌, ◌≤◌, min, ◌&&◌, length, is_ok, if◌then◌else◌, MatchBool};

@@ -1,4 +1,6 @@
 // Tests of the layers below on examples: Arrow's own, every short length, and each boundary.
+#![tactic(auto)]
+
 #[cfg(test)]
 mod column_cases;
 #[cfg(test)]

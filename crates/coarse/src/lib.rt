@@ -1,4 +1,6 @@
 // A kind of cue for checks: its equality is coarser than that of its bits, so that nothing above leans on more than the laws.
+#![tactic(auto)]
+
 ghost use Rattle.std.specs.Prelude.{◌/◌, ◌==◌};
 ghost use Rattle.kinds.specs.Orders.{order_n};
 ghost use Rattle.std.proofs.Common.{rules};

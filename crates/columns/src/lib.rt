@@ -1,4 +1,6 @@
 // Cells, batches and list columns.
+#![tactic(auto)]
+
 mod as_is;
 mod batches;
 mod cell;

@@ -1,4 +1,6 @@
 // Reads one sheet and says what it holds.
+#![tactic(auto)]
+
 use std::io::Read;
 use std::{env, fs, io};
 

@@ -1,5 +1,7 @@
 // Lists handed over: the lists of a store of records, written into buffers that the caller owns. These are working parts for
 // the crates above, which check what they ask.
+#![tactic(auto)]
+
 mod cell_map;
 mod counts;
 mod lists;

@@ -1,4 +1,6 @@
 // Kinds of cue: what can be told equal and hashed, and what can be put in order.
+#![tactic(auto)]
+
 mod hash;
 mod pattern;
 mod text;

@@ -1,6 +1,8 @@
 // Multisets of cells in a store that the caller provides: each cell once, with how often it is there. Their moves, one cell at
 // a time, are a trait; what a batch or a list column does to one is written once over it. They are working parts for the crates
 // above.
+#![tactic(auto)]
+
 ghost use Rattle.std.specs.Prelude.{◌≡◌, List, ℕ, ◌^◌, ◌≤◌, ◌<◌, length, get_or};
 ghost use Rattle.columns.specs.declared.cell.Cell.{Cell as Held};
 ghost use Rattle.columns.specs.declared.cell.Cell.TheVariants.{Null};

@@ -1,4 +1,6 @@
 // Working parts of the gatherer over a lent store of records. They are for the crates above, which check what they ask.
+#![tactic(auto)]
+
 mod accept;
 mod merge;
 mod record;

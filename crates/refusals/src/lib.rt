@@ -1,4 +1,6 @@
 // The refusals: every way in which a call can decline, and what is said of each.
+#![tactic(auto)]
+
 ghost use Rattle.std.specs.Prelude.{◌≡◌, Some};
 ghost use Rattle.refusals.specs.Numbers.{number_of};
 ghost use Rattle.refusals.specs.Sentences.{line_of, sentence_of};

@@ -1,5 +1,7 @@
 // Working parts of the collectors over lent slices, one text for every kind. They are for the crates above, which keep to
 // what each part asks.
+#![tactic(auto)]
+
 mod counted;
 mod halve;
 mod order;

@@ -1,4 +1,6 @@
 // Sheets: a show's rows as bytes, read and summed up.
+#![tactic(auto)]
+
 mod bytes;
 mod row;
 mod sheet;
