@@ -2,8 +2,8 @@
 use Rattle.std.specs.Prelude.{◌≡◌, ℕ, ◌<◌, true, List, [], ◌∷◌, pos, neg_ℤ, ◌≤ℤ◌, Decides, refl}
 use Rattle.std.specs.declared.cmp.Ordering.{Ordering}
 use Rattle.std.proofs.Common.{sym, subst, arith, rules}
-use Rattle.std.specs.Cmp.Lexicographic.{Lex}
-use Rattle.std.specs.Ordering.{MatchOrdering}
+use Rattle.std.specs.Cmp.Lexicographic.{slice_cmp}
+use Rattle.std.specs.Ordering.{nat_cmp}
 use Rattle.std.proofs.lemmas.Slice.Eq.{compares_Decides}
 use Rattle.std.proofs.lemmas.Bool.Decides.{nat_tests, same_from_decides, Decides-like}
 use Rattle.kinds.specs.Orders.{sign}
@@ -43,8 +43,8 @@ order_chain (x ∷ xs) (y ∷ ys) [] h k = absurd k.le
 order_chain (x ∷ xs) (y ∷ ys) (z ∷ zs) h k = let t = order_chain xs ys zs in grind (arith, nat_tests)
 
 -- what `cmp` answers of two slices of bytes
-pub order_from_lex : (xs ys : List ℕ) (r : Ordering) → Lex (λ a b o. MatchOrdering o (a < b) (a ≡ b) (b < a)) xs ys r → r ≡ order_bytes xs ys
-order_from_lex [] [] r h = h
-order_from_lex [] (y ∷ ys) r h = h
-order_from_lex (x ∷ xs) [] r h = h
-order_from_lex (x ∷ xs) (y ∷ ys) r h = let t = order_from_lex xs ys r in grind (arith, nat_tests)
+pub order_from_lex : (xs ys : List ℕ) → slice_cmp nat_cmp xs ys ≡ order_bytes xs ys
+order_from_lex [] [] = refl
+order_from_lex [] (y ∷ ys) = refl
+order_from_lex (x ∷ xs) [] = refl
+order_from_lex (x ∷ xs) (y ∷ ys) = let t = order_from_lex xs ys in grind (arith, nat_tests)

@@ -8,10 +8,10 @@ use Rattle.bitmap.proofs.Bits.{masked}
 use Rattle.bitmap.proofs.Counting.{valid_part}
 use Rattle.bitmap.proofs.ones_in_tail.Goals as goal
 
-pub overflow-cast-result : goal.overflow-cast-result
-overflow-cast-result c =
+pub overflow_cast-result : goal.overflow_cast-result
+overflow_cast-result c =
     let byte : bit_and (get_or c.args.bytes.now (c.args.rows / 8) 0) (1 * 2 ^ (c.args.rows % 8) % 256 - 1) < 2 ^ 8 =
-    omega (arith, and_le_l (get_or c.args.bytes.now (c.args.rows / 8) 0) (1 * 2 ^ (c.args.rows % 8) % 256 - 1), (c.type-inv.bytes (c.args.rows / 8)).fits) in
+    omega (arith, and_le_l (get_or c.args.bytes.now (c.args.rows / 8) 0) (1 * 2 ^ (c.args.rows % 8) % 256 - 1), (c.type_inv.bytes (c.args.rows / 8)).fits) in
     let few = ones-le 8 _ byte in
     search rules
 

@@ -4,8 +4,8 @@ use Rattle.bitmap.specs.Counts.{valid_in}
 use Rattle.bitmap.proofs.Counting.{valid_in_le}
 use Rattle.bitmap.proofs.ones_in_words.Goals as goal
 
-pub overflow-add-valid : goal.overflow-add-valid
-overflow-add-valid c =
+pub overflow_add-valid : goal.overflow_add-valid
+overflow_add-valid c =
     let all = valid_in_le c.args.bytes.now (8 * (8 * c.loop-k.k + 8)) in
     search rules
 

@@ -8,8 +8,8 @@ use Rattle.bitmap.proofs.Bits.{packed_lt}
 use Rattle.bitmap.proofs.pack.Goals as goal
 use Rattle.bitmap.proofs.pack.Goals.{then-flags-start, else-flags-start}
 
-pub overflow-add-byte : goal.overflow-add-byte
-overflow-add-byte c =
+pub overflow_add-byte : goal.overflow_add-byte
+overflow_add-byte c =
     let inside : c.loop-j.j < 8 = omega arith in
     let room : 2 ^ (c.loop-j.j + 1) ≤ 2 ^ 8 = pow_mono {j = 8} (omega arith) in
     let twice : 2 ^ (c.loop-j.j + 1) ≡ 2 ^ c.loop-j.j * 2 = rw add-one (pow-suc 2 c.loop-j.j) in

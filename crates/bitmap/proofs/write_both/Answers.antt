@@ -15,7 +15,7 @@ both_byte xs ys rows k n e = sym (packed_both xs ys k n (omega arith)) ∙ ap (p
 
 pub loop-k-preserved : goal.loop-k-preserved
 loop-k-preserved c =
-    let whole = mod-eq_of_lt (and_lt 8 _ _ (c.type-inv.a c.loop-k.k).fits (c.type-inv.b c.loop-k.k).fits) in
+    let whole = mod-eq_of_lt (and_lt 8 _ _ (c.type_inv.a c.loop-k.k).fits (c.type_inv.b c.loop-k.k).fits) in
     let byte = both_byte c.args.a.now c.args.b.now c.args.rows c.loop-k.k 8 (omega arith) in
     filled_more (both c.args.a.now c.args.b.now) c.args.rows c.loop-k.k _ c.args.out.now c.loop-k.out (omega arith) c.loop-k.invariant (omega arith)
 

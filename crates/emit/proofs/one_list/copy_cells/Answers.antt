@@ -17,19 +17,19 @@ pub loop-r-init : goal.loop-r-init
 loop-r-init g c = (
   omega arith,
   upto_none (λ k. cue_of g.K.Keyed.empty (get_or (list_of c.args.j c.args.records.now) k Null)) (λ k. get_or c.args.cues.now k g.K.Keyed.empty),
-  upto_none (cell_valid (list_of c.args.j c.args.records.now)) (valid_at c.args.cell-map.now),
-  within_none (size_of c.args.records.now c.args.j) c.args.cell-map.now c.requires.clear,
+  upto_none (cell_valid (list_of c.args.j c.args.records.now)) (valid_at c.args.cell_map.now),
+  within_none (size_of c.args.records.now c.args.j) c.args.cell_map.now c.requires.clear,
 )
 
-pub put-cell-requires : goal.put-cell-requires
-put-cell-requires g c =
+pub put_cell-requires : goal.put_cell-requires
+put_cell-requires g c =
     let key = ap (λ r. r.group) c.r-item.is in
     let more = size_yes c.args.records.now c.args.j c.loop-r.r-index c.r-item.result c.loop-r-test.true (omega (arith, c.if-r-j.true)) in
     let inside : c.loop-r.p < size_of c.args.records.now c.args.j = omega (arith, size_le c.args.records.now c.args.j (c.loop-r.r-index + 1)) in
     (omega arith, omega arith)
 
-pub overflow-add-p : goal.overflow-add-p
-overflow-add-p g c =
+pub overflow_add-p : goal.overflow_add-p
+overflow_add-p g c =
     let h : c.loop-r.p ≤ c.loop-r.r-index = omega (arith, size_len (take c.loop-r.r-index c.args.records.now) c.args.j, length-take c.loop-r.r-index c.args.records.now) in
     search rules
 
@@ -45,22 +45,22 @@ loop-r-preserved g c =
           let cell : c.r-item.result.cell ≡ get_or (list_of c.args.j c.args.records.now) c.loop-r.p Null =
           ap (λ r. r.cell) c.r-item.is ∙ sym (place_of c.args.records.now c.args.j c.loop-r.r-index c.r-item.result c.loop-r-test.true here)
           ∙ ap (λ (k : ℕ). get_or (list_of c.args.j c.args.records.now) k Null) (sym c.loop-r.invariant.0) in
-          let cues = w.cues-is ∙ w.put-cell.ensures.cues in
-          let marked = subst (λ (z : List ℕ). Marked (not (is_null c.r-item.result.cell)) c.loop-r.p c.loop-r.cell-map z) (sym w.cell-map-is) w.put-cell.ensures.marks in
-          let clear = c.loop-r.invariant.2.rest c.loop-r.p (omega arith) ∙ clear_rows (size_of c.args.records.now c.args.j) c.args.cell-map.now c.requires.clear c.loop-r.p (omega arith) in (
+          let cues = w.cues-is ∙ w.put_cell.ensures.cues in
+          let marked = subst (λ (z : List ℕ). Marked (not (is_null c.r-item.result.cell)) c.loop-r.p c.loop-r.cell_map z) (sym w.cell_map-is) w.put_cell.ensures.marks in
+          let clear = c.loop-r.invariant.2.rest c.loop-r.p (omega arith) ∙ clear_rows (size_of c.args.records.now c.args.j) c.args.cell_map.now c.requires.clear c.loop-r.p (omega arith) in (
             omega (arith, w.p-is),
             upto_more (λ k. cue_of g.K.Keyed.empty (get_or (list_of c.args.j c.args.records.now) k Null)) c.loop-r.p c.if-r-j.p (λ k. get_or c.loop-r.cues k g.K.Keyed.empty) (λ k. get_or c.args.cues.now k g.K.Keyed.empty) (λ k. get_or c.if-r-j.cues k g.K.Keyed.empty) w.p-is c.loop-r.invariant.1
                 (ap (λ z. get_or z c.loop-r.p g.K.Keyed.empty) cues ∙ get_or-set_same c.loop-r.cues c.loop-r.p _ g.K.Keyed.empty room ∙ ap (cue_of g.K.Keyed.empty) cell)
                 (λ i ne. (let ne2 : i ≢ c.loop-r.p = ne in ap (λ z. get_or z i g.K.Keyed.empty) cues ∙ get_or-set_other c.loop-r.cues c.loop-r.p i _ g.K.Keyed.empty ne2)),
-            upto_more (cell_valid (list_of c.args.j c.args.records.now)) c.loop-r.p c.if-r-j.p (valid_at c.loop-r.cell-map) (valid_at c.args.cell-map.now) (valid_at c.if-r-j.cell-map) w.p-is c.loop-r.invariant.2
-                (marked_clear _ c.loop-r.p c.loop-r.cell-map c.if-r-j.cell-map marked clear ∙ ap (λ z. not (is_null z)) cell) marked.others,
-            within_more _ c.loop-r.p (size_of c.args.records.now c.args.j) c.args.cell-map.now c.loop-r.cell-map c.if-r-j.cell-map inside c.loop-r.invariant.3 marked,
+            upto_more (cell_valid (list_of c.args.j c.args.records.now)) c.loop-r.p c.if-r-j.p (valid_at c.loop-r.cell_map) (valid_at c.args.cell_map.now) (valid_at c.if-r-j.cell_map) w.p-is c.loop-r.invariant.2
+                (marked_clear _ c.loop-r.p c.loop-r.cell_map c.if-r-j.cell_map marked clear ∙ ap (λ z. not (is_null z)) cell) marked.others,
+            within_more _ c.loop-r.p (size_of c.args.records.now c.args.j) c.args.cell_map.now c.loop-r.cell_map c.if-r-j.cell_map inside c.loop-r.invariant.3 marked,
           ))
       | else-r-j w ↦ (
         omega (arith, w.p-is, size_no c.args.records.now c.args.j c.loop-r.r-index c.r-item.result c.loop-r-test.true (λ e. omega (arith, w.if-r-j.false))),
         upto_same (λ k. cue_of g.K.Keyed.empty (get_or (list_of c.args.j c.args.records.now) k Null)) c.loop-r.p c.if-r-j.p (λ k. get_or c.loop-r.cues k g.K.Keyed.empty) (λ k. get_or c.args.cues.now k g.K.Keyed.empty) (λ k. get_or c.if-r-j.cues k g.K.Keyed.empty) w.p-is c.loop-r.invariant.1 (λ i. ap (λ z. get_or z i g.K.Keyed.empty) w.cues-is),
-        upto_same (cell_valid (list_of c.args.j c.args.records.now)) c.loop-r.p c.if-r-j.p (valid_at c.loop-r.cell-map) (valid_at c.args.cell-map.now) (valid_at c.if-r-j.cell-map) w.p-is c.loop-r.invariant.2 (λ i. ap (λ (z : List ℕ). valid_at z i) w.cell-map-is),
-        subst (Within (size_of c.args.records.now c.args.j) c.args.cell-map.now) (sym w.cell-map-is) c.loop-r.invariant.3,
+        upto_same (cell_valid (list_of c.args.j c.args.records.now)) c.loop-r.p c.if-r-j.p (valid_at c.loop-r.cell_map) (valid_at c.args.cell_map.now) (valid_at c.if-r-j.cell_map) w.p-is c.loop-r.invariant.2 (λ i. ap (λ (z : List ℕ). valid_at z i) w.cell_map-is),
+        subst (Within (size_of c.args.records.now c.args.j) c.args.cell_map.now) (sym w.cell_map-is) c.loop-r.invariant.3,
       )
     ]
 
@@ -73,7 +73,7 @@ returns g c =
           (λ k h. c.loop-r.invariant.1.reads k (omega arith) ∙ sym (get_or-map (cue_of g.K.Keyed.empty) (list_of c.args.j c.args.records.now) k Null g.K.Keyed.empty h))
           (λ k h. c.loop-r.invariant.1.rest k (omega arith));
       marks =
-          written_bits (cell_valid (list_of c.args.j c.args.records.now)) (size_of c.args.records.now c.args.j) c.args.cell-map.now c.loop-r.cell-map c.loop-r.auto.cell-map c.requires.bytes c.loop-r.invariant.3
+          written_bits (cell_valid (list_of c.args.j c.args.records.now)) (size_of c.args.records.now c.args.j) c.args.cell_map.now c.loop-r.cell_map c.loop-r.auto.cell_map c.requires.bytes c.loop-r.invariant.3
           (λ k h. c.loop-r.invariant.2.reads k (omega arith))
-          (λ k past h. c.loop-r.invariant.2.rest k (omega arith) ∙ clear_rows (size_of c.args.records.now c.args.j) c.args.cell-map.now c.requires.clear k h);
+          (λ k past h. c.loop-r.invariant.2.rest k (omega arith) ∙ clear_rows (size_of c.args.records.now c.args.j) c.args.cell_map.now c.requires.clear k h);
     }

@@ -12,5 +12,5 @@ abbrev pub invariant-loop-r : goal.invariant-loop-r
 invariant-loop-r g l =
     (l.p ≡ size_of (take l.r-index l.records) l.j)
     × Upto (λ k. cue_of g.K.Keyed.empty (get_or (list_of l.j l.records) k Null)) l.p (λ k. get_or l.cues k g.K.Keyed.empty) (λ k. get_or l.initial.cues k g.K.Keyed.empty)
-    × Upto (cell_valid (list_of l.j l.records)) l.p (valid_at l.cell-map) (valid_at l.initial.cell-map)
-    × Within (size_of l.records l.j) l.initial.cell-map l.cell-map
+    × Upto (cell_valid (list_of l.j l.records)) l.p (valid_at l.cell_map) (valid_at l.initial.cell_map)
+    × Within (size_of l.records l.j) l.initial.cell_map l.cell_map

@@ -16,13 +16,13 @@ bounds-store-at g c =
     let last = c.min-i-end.ensures in
     let within : c.loop-i.i < min (length c.args.groups.now) (length cells) = omega arith in
     let long = c.loop-i.auto.store in
-    omega (arith, place c.args.ignore (option_map (λ x. x.now) c.args.marks) c.args.groups.now cells c.loop-i.i c.cell-at-cell.result within c.cell-at-cell.ensures c.args.store.now c.loop-i.store c.args.held c.loop-i.at c.loop-i.invariant c.requires c.if-accepts.ensures)
+    omega (arith, place c.args.ignore (option_map (λ x. x.now) c.args.marks) c.args.groups.now cells c.loop-i.i c.cell_at-cell.result within c.cell_at-cell.ensures c.args.store.now c.loop-i.store c.args.held c.loop-i.at c.loop-i.invariant c.requires c.if-accepts.ensures)
 
-pub offset-bounds-store-at : goal.offset-bounds-store-at
-offset-bounds-store-at g c = let h : c.loop-i.at < length c.loop-i.store = bounds-store-at g c in search rules
+pub offset_bounds-store-at : goal.offset_bounds-store-at
+offset_bounds-store-at g c = let h : c.loop-i.at < length c.loop-i.store = bounds-store-at g c in search rules
 
-pub overflow-add-at : goal.overflow-add-at
-overflow-add-at g c = let h : c.loop-i.at < length c.loop-i.store = bounds-store-at g c in search rules
+pub overflow_add-at : goal.overflow_add-at
+overflow_add-at g c = let h : c.loop-i.at < length c.loop-i.store = bounds-store-at g c in search rules
 
 pub loop-i-preserved : goal.loop-i-preserved
 loop-i-preserved g c =
@@ -33,9 +33,9 @@ loop-i-preserved g c =
     let within : c.loop-i.i < min (length c.args.groups.now) (length cells) = omega arith in
     elim c.if-accepts.branch [
       | then-accepts w ↦
-          rw (w.store-is, w.at-is) (appended_yes c.args.ignore marks c.args.groups.now cells c.loop-i.i c.cell-at-cell.result within c.cell-at-cell.ensures c.args.store.now c.loop-i.store c.args.held c.loop-i.at c.loop-i.invariant c.requires w.if-accepts.ensures)
+          rw (w.store-is, w.at-is) (appended_yes c.args.ignore marks c.args.groups.now cells c.loop-i.i c.cell_at-cell.result within c.cell_at-cell.ensures c.args.store.now c.loop-i.store c.args.held c.loop-i.at c.loop-i.invariant c.requires w.if-accepts.ensures)
       | else-accepts w ↦
-          rw (w.store-is, w.at-is) (appended_no c.args.ignore marks c.args.groups.now cells c.loop-i.i c.cell-at-cell.result within c.cell-at-cell.ensures c.args.store.now c.loop-i.store c.args.held c.loop-i.at c.loop-i.invariant w.if-accepts.ensures)
+          rw (w.store-is, w.at-is) (appended_no c.args.ignore marks c.args.groups.now cells c.loop-i.i c.cell_at-cell.result within c.cell_at-cell.ensures c.args.store.now c.loop-i.store c.args.held c.loop-i.at c.loop-i.invariant w.if-accepts.ensures)
     ]
 
 pub returns : goal.returns

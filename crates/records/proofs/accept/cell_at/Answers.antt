@@ -9,5 +9,5 @@ use Rattle.records.proofs.accept.cell_at.Goals as goal
 
 pub returns : goal.returns
 returns g c =
-    c.unwrap-or.ensures ∙ ap (λ r. result_unwrap_or r Null) c.cell.ensures
+    c.unwrap_or.ensures ∙ ap (λ r. result_unwrap_or r Null) c.cell.ensures
     ∙ read_or (cells_in c.args.cells.now) (length c.args.cells.now.cues.now) c.args.i Null (length_cells (row_valid c.args.cells.now.map) 0 c.args.cells.now.cues.now)

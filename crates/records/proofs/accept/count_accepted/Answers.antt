@@ -15,11 +15,11 @@ loop-i-preserved g c =
     let within : c.loop-i.i < min (length c.args.groups.now) (length cells) = omega arith in
     elim c.if-accepts.branch [
       | then-accepts w ↦
-          let e = ap length (front_yes c.args.ignore marks c.args.groups.now cells c.loop-i.i c.cell-at-cell.result within c.cell-at-cell.ensures w.if-accepts.ensures) in
-          let one = length_push (Front c.args.ignore marks c.args.groups.now cells c.loop-i.i) (record { group = get_or c.args.groups.now c.loop-i.i 0; cell = c.cell-at-cell.result }) in
+          let e = ap length (front_yes c.args.ignore marks c.args.groups.now cells c.loop-i.i c.cell_at-cell.result within c.cell_at-cell.ensures w.if-accepts.ensures) in
+          let one = length_push (Front c.args.ignore marks c.args.groups.now cells c.loop-i.i) (record { group = get_or c.args.groups.now c.loop-i.i 0; cell = c.cell_at-cell.result }) in
           rw w.count-is (omega (arith, c.loop-i.invariant.0), omega (arith, c.loop-i.invariant.1))
       | else-accepts w ↦
-          let e = ap length (front_no c.args.ignore marks c.args.groups.now cells c.loop-i.i c.cell-at-cell.result within c.cell-at-cell.ensures w.if-accepts.ensures) in
+          let e = ap length (front_no c.args.ignore marks c.args.groups.now cells c.loop-i.i c.cell_at-cell.result within c.cell_at-cell.ensures w.if-accepts.ensures) in
           rw w.count-is (omega (arith, c.loop-i.invariant.0), omega (arith, c.loop-i.invariant.1))
     ]
 

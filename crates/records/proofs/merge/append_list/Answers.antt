@@ -16,17 +16,17 @@ bounds-store-at g c =
     let within : c.loop-k.k < length (part_cells c.args.part.now) = omega arith in
     omega (arith, list_place c.args.group (part_cells c.args.part.now) c.args.store.now c.loop-k.store c.args.held c.loop-k.at c.loop-k.k c.loop-k.invariant c.requires within)
 
-pub offset-bounds-store-at : goal.offset-bounds-store-at
-offset-bounds-store-at g c = let h : c.loop-k.at < length c.loop-k.store = bounds-store-at g c in search rules
+pub offset_bounds-store-at : goal.offset_bounds-store-at
+offset_bounds-store-at g c = let h : c.loop-k.at < length c.loop-k.store = bounds-store-at g c in search rules
 
-pub overflow-add-at : goal.overflow-add-at
-overflow-add-at g c = let h : c.loop-k.at < length c.loop-k.store = bounds-store-at g c in search rules
+pub overflow_add-at : goal.overflow_add-at
+overflow_add-at g c = let h : c.loop-k.at < length c.loop-k.store = bounds-store-at g c in search rules
 
 pub loop-k-preserved : goal.loop-k-preserved
 loop-k-preserved g c =
     let last = c.len-k-end.ensures in
     let within : c.loop-k.k < length (part_cells c.args.part.now) = omega arith in
-    list_more c.args.group (part_cells c.args.part.now) c.args.store.now c.loop-k.store c.args.held c.loop-k.at c.loop-k.k c.loop-k.invariant c.requires within c.part-cell.result c.part-cell.ensures
+    list_more c.args.group (part_cells c.args.part.now) c.args.store.now c.loop-k.store c.args.held c.loop-k.at c.loop-k.k c.loop-k.invariant c.requires within c.part_cell.result c.part_cell.ensures
 
 pub returns : goal.returns
 returns g c =

@@ -9,5 +9,5 @@ use Rattle.records.proofs.merge.part_cell.Goals as goal
 
 pub returns : goal.returns
 returns g c =
-    c.unwrap-or.ensures ∙ ap (λ r. result_unwrap_or r Null) c.cell.ensures
+    c.unwrap_or.ensures ∙ ap (λ r. result_unwrap_or r Null) c.cell.ensures
     ∙ read_or (part_cells c.args.part.now) (length c.args.part.now.cues.now) c.args.k Null (length_cells (valid_at c.args.part.now.map.now) c.args.part.now.place c.args.part.now.cues.now)

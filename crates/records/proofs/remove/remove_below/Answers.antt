@@ -12,11 +12,11 @@ bounds-store-at g c =
     let within : c.loop-i.i < length c.args.store.now = omega arith in
     omega (arith, behind c.args.n c.args.store.now c.loop-i.store c.loop-i.at c.loop-i.i c.loop-i.invariant within)
 
-pub offset-bounds-store-at : goal.offset-bounds-store-at
-offset-bounds-store-at g c = let h : c.loop-i.at < length c.loop-i.store = bounds-store-at g c in search rules
+pub offset_bounds-store-at : goal.offset_bounds-store-at
+offset_bounds-store-at g c = let h : c.loop-i.at < length c.loop-i.store = bounds-store-at g c in search rules
 
-pub overflow-add-at : goal.overflow-add-at
-overflow-add-at g c = let h : c.loop-i.at < length c.loop-i.store = bounds-store-at g c in search rules
+pub overflow_add-at : goal.overflow_add-at
+overflow_add-at g c = let h : c.loop-i.at < length c.loop-i.store = bounds-store-at g c in search rules
 
 pub loop-i-preserved : goal.loop-i-preserved
 loop-i-preserved g c =

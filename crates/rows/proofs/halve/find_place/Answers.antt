@@ -19,11 +19,11 @@ loop-low-preserved-then-eq g c =
     λ d.
     ap (λ (x : Counted g.row.K.Denot). order_cells g.K.Ordered.order c.args.options x.cell c.args.cell.now)
     (sym (held_at c.args.row.now c.args.held (c.loop-low.low + (c.loop-low.high - c.loop-low.low) / 2) c.index-row-middle.result (omega arith) (omega arith) c.index-row-middle.is d))
-    ∙ sym c.compare-cells.ensures.order ∙ c.if-eq.ensures.0 refl in (
+    ∙ sym c.compare_cells.ensures.order ∙ c.if-eq.ensures.0 refl in (
       omega arith,
       omega arith,
       omega arith,
-      λ rises. before_more g.K.Ordered.order g.K.Keyed.same c.args.options c.compare-cells.ensures.lawful (take c.args.held c.args.row.now) c.args.cell.now
+      λ rises. before_more g.K.Ordered.order g.K.Keyed.same c.args.options c.compare_cells.ensures.lawful (take c.args.held c.args.row.now) c.args.cell.now
           (c.loop-low.low + (c.loop-low.high - c.loop-low.low) / 2) (omega arith) rises here,
       c.loop-low.invariant.4,
     )
@@ -34,7 +34,7 @@ loop-low-preserved g c =
     λ d less.
     false≢true
     (c.if-eq.ensures.1
-    (c.compare-cells.ensures.order
+    (c.compare_cells.ensures.order
     ∙ ap (λ (x : Counted g.row.K.Denot). order_cells g.K.Ordered.order c.args.options x.cell c.args.cell.now)
     (held_at c.args.row.now c.args.held (c.loop-low.low + (c.loop-low.high - c.loop-low.low) / 2) c.index-row-middle.result (omega arith) (omega arith) c.index-row-middle.is d)
     ∙ less)) in (
@@ -42,7 +42,7 @@ loop-low-preserved g c =
       omega arith,
       omega arith,
       c.loop-low.invariant.3,
-      λ rises. after_more g.K.Ordered.order g.K.Keyed.same c.args.options c.compare-cells.ensures.lawful (take c.args.held c.args.row.now) c.args.cell.now
+      λ rises. after_more g.K.Ordered.order g.K.Keyed.same c.args.options c.compare_cells.ensures.lawful (take c.args.held c.args.row.now) c.args.cell.now
           (c.loop-low.low + (c.loop-low.high - c.loop-low.low) / 2) rises here,
     )
 

@@ -6,5 +6,5 @@ use Rattle.columns.proofs.cells.Cells.new.Goals as goal
 pub returns-in-Ok : goal.returns-in-Ok
 returns-in-Ok g c = record {
   outcome = c.in-Ok.ensures;
-  cells = cells_same (row_valid c.map-over-in-Ok.result) (valid_at c.args.parts.map.now) c.map-over-in-Ok.ensures.valid 0 c.args.parts.cues.now;
+  cells = cells_same (row_valid c.map_over-in-Ok.result) (valid_at c.args.parts.map.now) c.map_over-in-Ok.ensures.valid 0 c.args.parts.cues.now;
 }

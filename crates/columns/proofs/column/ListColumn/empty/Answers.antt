@@ -3,8 +3,8 @@ use Rattle.std.proofs.lemmas.Int.{ints}
 use Rattle.columns.specs.Offsets.{offset_at}
 use Rattle.columns.proofs.column.ListColumn.empty.Goals as goal
 
-pub invariant-of-result : goal.invariant-of-result
-invariant-of-result g c =
-    let none = c.map-over-2.ensures.rows in
+pub invariant_of-result : goal.invariant_of-result
+invariant_of-result g c =
+    let none = c.map_over-2.ensures.rows in
     let last = ap (offset_at (pos 0 ∷ [])) none in
     (omega arith, (omega arith, (omega (arith, ints), (λ i h. absurd (omega arith), (omega (arith, ints), tt)))))

@@ -15,9 +15,9 @@ cut-requires g c =
     let rises = start_rises c.args.self.now.offsets.now (column_rows c.args.self.now) (length c.args.self.now.cells.cues.now) (column_good c.args.self.now) 0 c.rows-rows.result (omega arith) (omega arith) in
     (omega arith, c.start-to.ensures.bound)
 
-pub returns-then-null-count-eq0 : goal.returns-then-null-count-eq0
-returns-then-null-count-eq0 g c =
-    let all = none_null c.args.self.now.map (sym c.null-count.ensures ∙ c.if-null-count-eq0.true) in
+pub returns-then-null_count-eq0 : goal.returns-then-null_count-eq0
+returns-then-null_count-eq0 g c =
+    let all = none_null c.args.self.now.map (sym c.null_count.ensures ∙ c.if-null_count-eq0.true) in
     let high = c.start-to.ensures.value ∙ ap (start_of c.args.self.now.offsets.now) c.rows-rows.ensures in
     record {
       part = given_whole c.args.self.now c.cut.result c.start-from.result c.start-to.result all c.start-from.ensures.value high c.cut.ensures;
@@ -28,40 +28,40 @@ pub returns-then-first-rows : goal.returns-then-first-rows
 returns-then-first-rows g c =
     let rows = c.rows-rows.ensures in
     let first = c.if-first-rows.true in
-    let none : (k : ℕ) → k < column_rows c.args.self.now → row_valid c.args.self.now.map k ≡ false = λ k h. c.first-valid-first.ensures.before k (omega arith) in
+    let none : (k : ℕ) → k < column_rows c.args.self.now → row_valid c.args.self.now.map k ≡ false = λ k h. c.first_valid-first.ensures.before k (omega arith) in
     record {
-      part = given_null c.args.self.now c.cut-then-first-rows.result (some_rows c.args.self.now.map (λ e. c.if-null-count-eq0.false (c.null-count.ensures ∙ e))) none c.cut-then-first-rows.ensures;
+      part = given_null c.args.self.now c.cut-then-first-rows.result (some_rows c.args.self.now.map (λ e. c.if-null_count-eq0.false (c.null_count.ensures ∙ e))) none c.cut-then-first-rows.ensures;
       joined = joined_null c.args.self.now c.cut-then-first-rows.result none c.cut-then-first-rows.ensures;
     }
 
-pub returns-then-not-whole-between : goal.returns-then-not-whole-between
-returns-then-not-whole-between g c =
+pub returns-then-not-whole_between : goal.returns-then-not-whole_between
+returns-then-not-whole_between g c =
     let rows = c.rows-rows.ensures in
-    let within : c.first-valid-first.result < column_rows c.args.self.now = at_most_not c.first-valid-first.result (column_rows c.args.self.now) c.first-valid-first.ensures.bound (λ e. c.if-first-rows.false (e ∙ sym rows)) in
-    let before = c.first-valid-first.ensures.before in
-    let found = c.first-valid-first.ensures.found within in
-    let under = c.past-valid-past.ensures.bound in
-    let after = c.past-valid-past.ensures.after in
-    let last = c.past-valid-past.ensures.found in
-    let order = ends_order (row_valid c.args.self.now.map) (column_rows c.args.self.now) c.first-valid-first.result c.past-valid-past.result within before found under after last in
-    let first-is = ends_first (row_valid c.args.self.now.map) (column_rows c.args.self.now) c.first-valid-first.result c.past-valid-past.result within before found under after last in
-    let past_is = ends_past (row_valid c.args.self.now.map) (column_rows c.args.self.now) c.first-valid-first.result c.past-valid-past.result within before found under after last in
-    let hole = c.if-not-whole-between.ensures in
+    let within : c.first_valid-first.result < column_rows c.args.self.now = at_most_not c.first_valid-first.result (column_rows c.args.self.now) c.first_valid-first.ensures.bound (λ e. c.if-first-rows.false (e ∙ sym rows)) in
+    let before = c.first_valid-first.ensures.before in
+    let found = c.first_valid-first.ensures.found within in
+    let under = c.past_valid-past.ensures.bound in
+    let after = c.past_valid-past.ensures.after in
+    let last = c.past_valid-past.ensures.found in
+    let order = ends_order (row_valid c.args.self.now.map) (column_rows c.args.self.now) c.first_valid-first.result c.past_valid-past.result within before found under after last in
+    let first-is = ends_first (row_valid c.args.self.now.map) (column_rows c.args.self.now) c.first_valid-first.result c.past_valid-past.result within before found under after last in
+    let past_is = ends_past (row_valid c.args.self.now.map) (column_rows c.args.self.now) c.first_valid-first.result c.past_valid-past.result within before found under after last in
+    let hole = c.if-not-whole_between.ensures in
     record {
-      part = gap_none c.args.self.now c.first-valid-first.result c.past-valid-past.result within found (omega arith) under (last (omega arith)) hole.0 hole.1 hole.2 hole.3 first-is past_is;
-      joined = gap_there c.args.self.now c.first-valid-first.result c.past-valid-past.result within found (omega arith) under (last (omega arith)) hole.0 hole.1 hole.2 hole.3;
+      part = gap_none c.args.self.now c.first_valid-first.result c.past_valid-past.result within found (omega arith) under (last (omega arith)) hole.0 hole.1 hole.2 hole.3 first-is past_is;
+      joined = gap_there c.args.self.now c.first_valid-first.result c.past_valid-past.result within found (omega arith) under (last (omega arith)) hole.0 hole.1 hole.2 hole.3;
     }
 
 pub cut-requires-2 : goal.cut-requires-2
 cut-requires-2 g c =
     let rows = c.rows-rows.ensures in
-    let within : c.first-valid-first.result < column_rows c.args.self.now = at_most_not c.first-valid-first.result (column_rows c.args.self.now) c.first-valid-first.ensures.bound (λ e. c.if-first-rows.false (e ∙ sym rows)) in
+    let within : c.first_valid-first.result < column_rows c.args.self.now = at_most_not c.first_valid-first.result (column_rows c.args.self.now) c.first_valid-first.ensures.bound (λ e. c.if-first-rows.false (e ∙ sym rows)) in
     let order =
-    ends_order (row_valid c.args.self.now.map) (column_rows c.args.self.now) c.first-valid-first.result c.past-valid-past.result within c.first-valid-first.ensures.before (c.first-valid-first.ensures.found within)
-    c.past-valid-past.ensures.bound c.past-valid-past.ensures.after c.past-valid-past.ensures.found in
+    ends_order (row_valid c.args.self.now.map) (column_rows c.args.self.now) c.first_valid-first.result c.past_valid-past.result within c.first_valid-first.ensures.before (c.first_valid-first.ensures.found within)
+    c.past_valid-past.ensures.bound c.past_valid-past.ensures.after c.past_valid-past.ensures.found in
     let rises =
-    start_rises c.args.self.now.offsets.now (column_rows c.args.self.now) (length c.args.self.now.cells.cues.now) (column_good c.args.self.now) c.first-valid-first.result c.past-valid-past.result (omega arith)
-    c.past-valid-past.ensures.bound in
+    start_rises c.args.self.now.offsets.now (column_rows c.args.self.now) (length c.args.self.now.cells.cues.now) (column_good c.args.self.now) c.first_valid-first.result c.past_valid-past.result (omega arith)
+    c.past_valid-past.ensures.bound in
     let low = c.start-from-2.ensures.value in
     let high = c.start-to-2.ensures.value in
     (omega arith, c.start-to-2.ensures.bound)
@@ -69,21 +69,21 @@ cut-requires-2 g c =
 pub returns : goal.returns
 returns g c =
     let rows = c.rows-rows.ensures in
-    let within : c.first-valid-first.result < column_rows c.args.self.now = at_most_not c.first-valid-first.result (column_rows c.args.self.now) c.first-valid-first.ensures.bound (λ e. c.if-first-rows.false (e ∙ sym rows)) in
-    let before = c.first-valid-first.ensures.before in
-    let found = c.first-valid-first.ensures.found within in
-    let under = c.past-valid-past.ensures.bound in
-    let after = c.past-valid-past.ensures.after in
-    let last = c.past-valid-past.ensures.found in
-    let order = ends_order (row_valid c.args.self.now.map) (column_rows c.args.self.now) c.first-valid-first.result c.past-valid-past.result within before found under after last in
-    let first-is = ends_first (row_valid c.args.self.now.map) (column_rows c.args.self.now) c.first-valid-first.result c.past-valid-past.result within before found under after last in
-    let past_is = ends_past (row_valid c.args.self.now.map) (column_rows c.args.self.now) c.first-valid-first.result c.past-valid-past.result within before found under after last in
-    let inside = c.if-not-whole-between.ensures in
+    let within : c.first_valid-first.result < column_rows c.args.self.now = at_most_not c.first_valid-first.result (column_rows c.args.self.now) c.first_valid-first.ensures.bound (λ e. c.if-first-rows.false (e ∙ sym rows)) in
+    let before = c.first_valid-first.ensures.before in
+    let found = c.first_valid-first.ensures.found within in
+    let under = c.past_valid-past.ensures.bound in
+    let after = c.past_valid-past.ensures.after in
+    let last = c.past_valid-past.ensures.found in
+    let order = ends_order (row_valid c.args.self.now.map) (column_rows c.args.self.now) c.first_valid-first.result c.past_valid-past.result within before found under after last in
+    let first-is = ends_first (row_valid c.args.self.now.map) (column_rows c.args.self.now) c.first_valid-first.result c.past_valid-past.result within before found under after last in
+    let past_is = ends_past (row_valid c.args.self.now.map) (column_rows c.args.self.now) c.first_valid-first.result c.past_valid-past.result within before found under after last in
+    let inside = c.if-not-whole_between.ensures in
     record {
       part =
-          given_run c.args.self.now c.cut-2.result c.first-valid-first.result c.past-valid-past.result c.start-from-2.result c.start-to-2.result within first-is past_is inside
+          given_run c.args.self.now c.cut-2.result c.first_valid-first.result c.past_valid-past.result c.start-from-2.result c.start-to-2.result within first-is past_is inside
           c.start-from-2.ensures.value c.start-to-2.ensures.value c.cut-2.ensures;
       joined =
-          joined_run c.args.self.now c.cut-2.result c.first-valid-first.result c.past-valid-past.result c.start-from-2.result c.start-to-2.result (omega arith) under before after inside
+          joined_run c.args.self.now c.cut-2.result c.first_valid-first.result c.past_valid-past.result c.start-from-2.result c.start-to-2.result (omega arith) under before after inside
           c.start-from-2.ensures.value c.start-to-2.ensures.value c.cut-2.ensures;
     }

@@ -4,8 +4,8 @@ use Rattle.columns.proofs.Making.{column_good}
 use Rattle.columns.proofs.Rules.{start_is, start_within}
 use Rattle.columns.proofs.column.ListColumn.start.Goals as goal
 
-pub overflow-cast-result : goal.overflow-cast-result
-overflow-cast-result g c =
+pub overflow_cast-result : goal.overflow_cast-result
+overflow_cast-result g c =
     let is = start_is c.args.self.now.offsets.now (row_count c.args.self.now.map) (length c.args.self.now.cells.cues.now) (column_good c.args.self.now) c.args.i c.requires in
     search rules
 

@@ -3,5 +3,5 @@ use Rattle.kinds.proofs.text_kind.TextOrdered.compare.Goals as goal
 
 pub returns : goal.returns
 returns c =
-    let answer = order_from_lex c.as-bytes.result.now c.as-bytes-2.result.now c.cmp.result c.cmp.ensures in
+    let answer = order_from_lex c.as_bytes.result.now c.as_bytes-2.result.now in
     cc

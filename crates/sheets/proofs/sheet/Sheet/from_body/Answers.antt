@@ -2,7 +2,7 @@ use Rattle.std.proofs.Common.{is_ok, sym, ap}
 use Rattle.sheets.proofs.Good.{good_decides}
 use Rattle.sheets.proofs.sheet.Sheet.from_body.Goals as goal
 
-pub invariant-of-result-in-Ok : goal.invariant-of-result-in-Ok
-invariant-of-result-in-Ok c =
+pub invariant_of-result-in-Ok : goal.invariant_of-result-in-Ok
+invariant_of-result-in-Ok c =
     let g = (good_decides c.args.rows c.args.modules c.args.body.now).0 (ap is_ok (sym c.in-Ok.ensures)) in
-    (g.sized, (g.rows-fit, (g.modules_fit, (g.words_known, (g.modules_known, tt)))))
+    (g.sized, (g.rows_fit, (g.modules_fit, (g.words_known, (g.modules_known, tt)))))

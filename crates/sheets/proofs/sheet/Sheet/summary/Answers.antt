@@ -6,18 +6,18 @@ use Rattle.sheets.proofs.sheet.Sheet.summary.Goals.{then-not-row, else-not-row}
 pub loop-i-init : goal.loop-i-init
 loop-i-init c = tally_none c.args.self.now.rows c.args.self.now.body.now
 
-pub overflow-add-nulls : goal.overflow-add-nulls
-overflow-add-nulls c = omega (arith, bool_byte_le c.row-at-row.result.null)
+pub overflow_add-nulls : goal.overflow_add-nulls
+overflow_add-nulls c = omega (arith, bool_byte_le c.row_at-row.result.null)
 
 pub loop-i-preserved : goal.loop-i-preserved
 loop-i-preserved c =
     elim c.if-not-row.branch [
       | then-not-row w ↦
           tally_more c.args.self.now.rows c.args.self.now.body.now c.loop-i.i c.loop-i.accepted c.loop-i.nulls c.loop-i.invariant
-          c.row-at-row.result c.row-at-row.ensures w.if-not-row.true c.if-not-row.accepted c.if-not-row.nulls w.accepted_is w.nulls_is
+          c.row_at-row.result c.row_at-row.ensures w.if-not-row.true c.if-not-row.accepted c.if-not-row.nulls w.accepted_is w.nulls_is
       | else-not-row w ↦
           tally_skip c.args.self.now.rows c.args.self.now.body.now c.loop-i.i c.loop-i.accepted c.loop-i.nulls c.loop-i.invariant
-          c.row-at-row.result c.row-at-row.ensures w.if-not-row.false c.if-not-row.accepted c.if-not-row.nulls w.accepted_is w.nulls_is
+          c.row_at-row.result c.row_at-row.ensures w.if-not-row.false c.if-not-row.accepted c.if-not-row.nulls w.accepted_is w.nulls_is
     ]
 
 pub returns : goal.returns
