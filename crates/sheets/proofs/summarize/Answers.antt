@@ -7,8 +7,8 @@ use Rattle.sheets.proofs.summarize.Goals as goal
 
 pub returns-in_err-outcome : goal.returns-in_err-outcome
 returns-in_err-outcome c =
-    let p = err_from_is_err_and c.from-residual.result c.from-residual.ensures.1 in
+    let p = err_from_is_err_and c.from_residual.result c.from_residual.ensures.1 in
     let refused =
-    unless_err {T = Unit {0}} (sheet_checks c.args.bytes.now) tt (summary_of (modules_in c.args.bytes.now) (rows_of c.args.bytes.now)) c.in_err-outcome.field_0.0
+    unless_err {T = Unit {0}} (sheet_checks c.args.bytes.now) tt (summary_of (modules_in c.args.bytes.now) (rows_of c.args.bytes.now)) c.in_err-outcome.field-0.0
     (sym c.new-outcome.ensures.outcome ∙ c.in_err-outcome.was) in
     rw (p.1, p.2) (sym refused)

@@ -7,4 +7,10 @@ pub invariant_of-result : goal.invariant_of-result
 invariant_of-result g c =
     let none = c.map_over-2.ensures.rows in
     let last = ap (offset_at (pos 0 ∷ [])) none in
-    (omega arith, (omega arith, (omega (arith, ints), (λ i h. absurd (omega arith), (omega (arith, ints), tt)))))
+    record {
+      few = omega arith;
+      long = omega arith;
+      first = omega (arith, ints);
+      rising = λ i h. absurd (omega arith);
+      last = omega (arith, ints);
+    }

@@ -14,10 +14,10 @@ loop-i-preserved c =
     elim c.if-not-row.branch [
       | then-not-row w ↦
           tally_more c.args.self.now.rows c.args.self.now.body.now c.loop-i.i c.loop-i.accepted c.loop-i.nulls c.loop-i.invariant
-          c.row_at-row.result c.row_at-row.ensures w.if-not-row.true c.if-not-row.accepted c.if-not-row.nulls w.accepted_is w.nulls_is
+          c.row_at-row.result c.row_at-row.ensures w.if-not-row.true c.if-not-row.accepted c.if-not-row.nulls w.accepted-is w.nulls-is
       | else-not-row w ↦
           tally_skip c.args.self.now.rows c.args.self.now.body.now c.loop-i.i c.loop-i.accepted c.loop-i.nulls c.loop-i.invariant
-          c.row_at-row.result c.row_at-row.ensures w.if-not-row.false c.if-not-row.accepted c.if-not-row.nulls w.accepted_is w.nulls_is
+          c.row_at-row.result c.row_at-row.ensures w.if-not-row.false c.if-not-row.accepted c.if-not-row.nulls w.accepted-is w.nulls-is
     ]
 
 pub returns : goal.returns
