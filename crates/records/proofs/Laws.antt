@@ -3,7 +3,7 @@ use Rattle.std.proofs.Common.{◌≡◌, ℕ, zero, suc, ◌+◌, ◌-◌, ◌<�
 use Rattle.std.specs.List.{between, AllByRecursion as All}
 use Rattle.std.proofs.lemmas.List.Elements.{filter-append}
 use Rattle.std.proofs.ByRecursion.{All-append, All-get_or}
-use Rattle.std.proofs.lemmas.List.{length-map, map_append}
+use Rattle.std.proofs.lemmas.List.{length-map, map-append}
 use Rattle.std.proofs.lemmas.List.Sums.{count_by-le-length, length-filter}
 use Rattle.std.proofs.lemmas.Bool.{cases_Bool, cond_both, cond-true, cond-false, leb-false, leb-true, ne_eqb}
 use Rattle.std.proofs.lemmas.Bool.Decides.{nat_tests}
@@ -19,12 +19,12 @@ module _ {K : Type 0} where
   pub list_append : (j : ℕ) (xs ys : List (Record K)) → list_of j (xs ++ ys) ≡ list_of j xs ++ list_of j ys
   list_append j xs ys =
       ap (map (λ (r : Record K). r.cell)) (filter-append (λ r. eqb r.group j) xs ys)
-      ∙ map_append (λ (r : Record K). r.cell) (filter (λ r. eqb r.group j) xs) (filter (λ r. eqb r.group j) ys)
+      ∙ map-append (λ (r : Record K). r.cell) (filter (λ r. eqb r.group j) xs) (filter (λ r. eqb r.group j) ys)
 
   pub without_append : (n : ℕ) (xs ys : List (Record K)) → without n (xs ++ ys) ≡ without n xs ++ without n ys
   without_append n xs ys =
       ap (map (lowered n)) (filter-append (λ r. leb n r.group) xs ys)
-      ∙ map_append (lowered n) (filter (λ r. leb n r.group) xs) (filter (λ r. leb n r.group) ys)
+      ∙ map-append (lowered n) (filter (λ r. leb n r.group) xs) (filter (λ r. leb n r.group) ys)
 
   -- one record more in front
   pub without_yes : (n : ℕ) (x : Record K) (xs : List (Record K)) → leb n x.group ≡ true → without n (x ∷ xs) ≡ lowered n x ∷ without n xs
@@ -118,7 +118,7 @@ module _ {K : Type 0} where
     pub cells_merged : (n : ℕ) → map (λ (r : Record K). r.cell) (merged_records valid offsets cells groups n) ≡ valid_cells valid offsets cells n
     cells_merged zero = refl
     cells_merged (suc n) =
-        map_append (λ (r : Record K). r.cell) (merged_records valid offsets cells groups n) (Brought n)
+        map-append (λ (r : Record K). r.cell) (merged_records valid offsets cells groups n) (Brought n)
         ∙ ap (λ t. t ++ map (λ (r : Record K). r.cell) (Brought n)) (cells_merged n)
         ∙ ap (λ t. valid_cells valid offsets cells n ++ t) (row (valid n) (between (start_of offsets n) (start_of offsets (n + 1)) cells))
       where
