@@ -1,3 +1,7 @@
+use Rattle.std.specs.Prelude.{◌==◌}
+use Rattle.std.specs.Ordering.{ordering_index}
+use Rattle.std.specs.declared.cmp.Ordering.{Ordering}
+use Rattle.std.specs.declared.cmp.Ordering.TheVariants.{Equal, Greater}
 use Rattle.std.proofs.Common.{◌≡◌, ◌+◌, ◌-◌, ◌/◌, true, false, get_or, take, Less, sym, refl, ap, ◌∙◌, arith}
 use Rattle.std.proofs.lemmas.List.{length-take}
 use Rattle.std.proofs.lemmas.Bool.{false≢true}
@@ -5,6 +9,15 @@ use Rattle.rows.specs.Orders.{order_cells}
 use Rattle.rows.specs.declared.counted.Counted.{Counted}
 use Rattle.rows.proofs.Halving.{after_more, before_more, held_at}
 use Rattle.rows.proofs.halve.find_place.Goals as goal
+
+-- what the test against `Less` tells
+is_less : (r : Ordering) → true ≡ (ordering_index r == 0) → r ≡ Less
+is_less Less h = refl
+is_less Equal h = absurd (false≢true (sym h))
+is_less Greater h = absurd (false≢true (sym h))
+
+not_less : (r : Ordering) → false ≡ (ordering_index r == 0) → r ≡ Less → ⊥
+not_less r h e = false≢true (h ∙ ap (λ o. ordering_index o == 0) e)
 
 pub loop-low-init : goal.loop-low-init
 loop-low-init g c =
@@ -19,7 +32,7 @@ loop-low-preserved-then-eq g c =
     λ d.
     ap (λ (x : Counted g.row.K.Denot). order_cells g.K.Ordered.order c.args.options x.cell c.args.cell.now)
     (sym (held_at c.args.row.now c.args.held (c.loop-low.low + (c.loop-low.high - c.loop-low.low) / 2) c.index-row-middle.result (omega arith) (omega arith) c.index-row-middle.is d))
-    ∙ sym c.compare_cells.ensures.order ∙ c.if-eq.ensures.0 refl in (
+    ∙ sym c.compare_cells.ensures.order ∙ is_less c.compare_cells.result c.if-eq.ensures in (
       omega arith,
       omega arith,
       omega arith,
@@ -32,12 +45,11 @@ pub loop-low-preserved : goal.loop-low-preserved
 loop-low-preserved g c =
     let here : (d : Counted g.row.K.Denot) → order_cells g.K.Ordered.order c.args.options (get_or (take c.args.held c.args.row.now) (c.loop-low.low + (c.loop-low.high - c.loop-low.low) / 2) d).cell c.args.cell.now ≡ Less → ⊥ =
     λ d less.
-    false≢true
-    (c.if-eq.ensures.1
+    not_less c.compare_cells.result c.if-eq.ensures
     (c.compare_cells.ensures.order
     ∙ ap (λ (x : Counted g.row.K.Denot). order_cells g.K.Ordered.order c.args.options x.cell c.args.cell.now)
     (held_at c.args.row.now c.args.held (c.loop-low.low + (c.loop-low.high - c.loop-low.low) / 2) c.index-row-middle.result (omega arith) (omega arith) c.index-row-middle.is d)
-    ∙ less)) in (
+    ∙ less) in (
       omega arith,
       omega arith,
       omega arith,
