@@ -81,7 +81,7 @@ fn texts_stand_in_byte_order(rt: HostRuntime) -> Result<(), Fail> {
 #[test]
 fn texts_have_at_most_sixteen_bytes(rt: HostRuntime) -> Result<(), Fail> {
     let most = Text::new(b"0123456789abcdef")?;
-    assert!(rt; most.as_bytes() == b"0123456789abcdef");
+    assert!(rt; most.as_bytes() == b"0123456789abcdef".as_slice());
     let other = Text::new(b"0123456789abcdeg")?;
     assert!(rt; !most.equal(&other));
     assert_eq!(rt; most.compare(&other), Ordering::Less);
