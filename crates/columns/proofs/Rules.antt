@@ -1,5 +1,5 @@
 -- The test for the rules of offsets, and what the rules say of where rows start.
-use Rattle.std.proofs.Common.{◌≡◌, ℕ, zero, suc, ◌+◌, ◌-◌, ◌<◌, ◌≤◌, Bool, true, false, T, eqb, ◌⊎◌, List, length, ℤ, pos, negsuc, ◌≤ℤ◌, Decides, sym, refl, ap, inl, inr, ⊎_elim, add-one, arith}
+use Rattle.std.proofs.Common.{◌≡◌, ℕ, zero, suc, ◌+◌, ◌<◌, ◌≤◌, Bool, true, false, T, eqb, ◌⊎◌, List, length, ℤ, pos, negsuc, ◌≤ℤ◌, Decides, sym, refl, ap, inl, inr, ⊎_elim, add-one, arith}
 use lib.Signed.{le_z}
 use Rattle.std.proofs.lemmas.Int.{ints}
 use Rattle.std.proofs.lemmas.Bool.{cases_Bool, cases_eq, and_from, and_parts, eqb-true, eq-eqb, false≢true}

@@ -1,5 +1,5 @@
 -- The offsets of a list column: offset i is where row i starts, and the next one where it ends.
-use Rattle.std.specs.Prelude.{◌≡◌, ℕ, zero, suc, ◌+◌, ◌<◌, ◌≤◌, Bool, true, ◌&&◌, List, length, ℤ, pos, negsuc, ◌≤ℤ◌, ◌==◌, int_le, slice_index_or}
+use Rattle.std.specs.Prelude.{◌≡◌, ℕ, zero, suc, ◌+◌, ◌<◌, Bool, true, ◌&&◌, List, length, ℤ, pos, negsuc, ◌≤ℤ◌, ◌==◌, int_le, slice_index_or}
 
 abbrev pub offset_at : List ℤ → ℕ → ℤ
 offset_at offsets i = slice_index_or offsets i (pos 0)

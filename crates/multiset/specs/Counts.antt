@@ -1,5 +1,5 @@
 -- Counted cells: how often each cell is there.
-use Rattle.std.specs.Prelude.{◌≡◌, List, [], ◌∷◌, map, Bool, true, false, cond, ℕ, ◌+◌, ◌<◌, length, get_or}
+use Rattle.std.specs.Prelude.{◌≡◌, List, [], ◌∷◌, map, Bool, false, cond, ℕ, ◌+◌, ◌<◌, length, get_or}
 use Rattle.columns.specs.declared.cell.Cell.{Cell}
 use Rattle.columns.specs.CellKinds.{same_cell}
 use Rattle.rows.specs.declared.counted.Counted.{Counted}

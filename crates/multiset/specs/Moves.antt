@@ -1,5 +1,5 @@
 -- What the moves of a multiset promise: `before` as a call begins, `after` as it ends.
-use Rattle.std.specs.Prelude.{◌≡◌, List, Bool, true, false, ℕ, ◌≤◌, length}
+use Rattle.std.specs.Prelude.{◌≡◌, List, Bool, true, false, ℕ, length}
 use Rattle.columns.specs.declared.cell.Cell.{Cell}
 use Rattle.rows.specs.declared.counted.Counted.{Counted}
 use Rattle.multiset.specs.Counts.{weigh, Live, OneMore}

@@ -1,4 +1,4 @@
-use Rattle.std.proofs.Common.{◌≡◌, ℕ, ◌-◌, ◌<◌, false, length, sym, ap, ◌∙◌, arith}
+use Rattle.std.proofs.Common.{◌≡◌, ℕ, ◌<◌, false, length, sym, ap, ◌∙◌, arith}
 use Rattle.bitmap.specs.Maps.{row_valid}
 use Rattle.columns.specs.Columns.{column_rows}
 use Rattle.columns.specs.Offsets.{start_of}
