@@ -2,6 +2,7 @@
 #![tactic(auto)]
 
 use std::io::Read;
+use std::process::ExitCode;
 use std::{env, fs, io};
 
 const USAGE: &str = "usage: cuesheet [FILE]
@@ -27,13 +28,13 @@ impl From<io::Error> for Stop {
     }
 }
 
-fn main(rt: HostRuntime) -> Result<(), ()> {
+fn main(rt: HostRuntime) -> ExitCode {
     match run(&rt) {
-        Ok(()) => Ok(()),
-        Err(Stop::Told) => Err(()),
+        Ok(()) => ExitCode::SUCCESS,
+        Err(Stop::Told) => ExitCode::FAILURE,
         Err(Stop::Io(e)) => {
             let _ = eprintln!(rt; "cuesheet: {e}");
-            Err(())
+            ExitCode::FAILURE
         }
     }
 }
