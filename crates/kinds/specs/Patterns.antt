@@ -1,4 +1,4 @@
--- The order of 64-bit floating-point patterns: total_order of IEEE 754.
+-- The order of 64-bit floating-point patterns: totalOrder of IEEE 754.
 use Rattle.std.specs.Prelude.{ℕ, ◌+◌, ◌-◌, ◌/◌, ◌%◌, ◌^◌, Bool, cond, ◌==◌}
 use Rattle.std.specs.declared.cmp.Ordering.TheVariants.{Less, Greater}
 use Rattle.std.specs.declared.cmp.Ordering.{Ordering}

@@ -1,7 +1,7 @@
 // A whole cue: an integer that fits an i64, ordered by value.
 ghost use Rattle.std.specs.Prelude.{pos};
-ghost use Rattle.std.specs.Int.{w64};
-ghost use Rattle.std.proofs.Common.{of_z, rules};
+ghost use Rattle.std.specs.Int.{w64, cast_unsigned};
+ghost use Rattle.std.proofs.Common.{rules};
 ghost use Rattle.kinds.specs.Hashes.{mixed};
 ghost use Rattle.kinds.specs.Orders.{order_z, same_z};
 
@@ -19,7 +19,7 @@ impl Keyed for Whole {
 
     ghost same = { λ a b. same_z a.value b.value };
 
-    ghost hashed = { λ a. mixed (of_z w64 a.value) };
+    ghost hashed = { λ a. mixed (cast_unsigned w64 a.value) };
 
     ghost reflexive = { Prim.search rules };
 

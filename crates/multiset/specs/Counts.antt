@@ -1,5 +1,5 @@
 -- Counted cells: how often each cell is there.
-use Rattle.std.specs.Prelude.{◌≡◌, List, [], ◌∷◌, map, Bool, false, cond, ℕ, ◌+◌, ◌<◌, length, get_or}
+use Rattle.std.specs.Prelude.{◌≡◌, List, [], ◌∷◌, map, Bool, false, cond, ℕ, ◌+◌, ◌<◌, length, slice_index_or}
 use Rattle.columns.specs.declared.cell.Cell.{Cell}
 use Rattle.columns.specs.CellKinds.{same_cell}
 use Rattle.rows.specs.declared.counted.Counted.{Counted}
@@ -25,15 +25,15 @@ total (e ∷ es) = e.count + total es
 
 -- no two entries have equal cells
 abbrev pub Apart : {K : Type 0} → (K → K → Bool) → List (Counted K) → Type 0
-Apart {K} same es = (i j : ℕ) (d : Counted K) → i < j → j < length es → same_cell same (get_or es i d).cell (get_or es j d).cell ≡ false
+Apart {K} same es = (i j : ℕ) (d : Counted K) → i < j → j < length es → same_cell same (slice_index_or es i d).cell (slice_index_or es j d).cell ≡ false
 
 -- every count is above zero
 abbrev pub Live : {K : Type 0} → List (Counted K) → Type 0
-Live {K} es = (k : ℕ) (d : Counted K) → k < length es → 0 < (get_or es k d).count
+Live {K} es = (k : ℕ) (d : Counted K) → k < length es → 0 < (slice_index_or es k d).count
 
 -- each entry whose count is zero has a cell that equals one of these
 abbrev pub Emptied : {K : Type 0} → (K → K → Bool) → List (Cell K) → List (Counted K) → Type 0
-Emptied {K} same cells es = (k : ℕ) (d : Counted K) → k < length es → (get_or es k d).count ≡ 0 → 0 < tally same (get_or es k d).cell cells
+Emptied {K} same cells es = (k : ℕ) (d : Counted K) → k < length es → (slice_index_or es k d).count ≡ 0 → 0 < tally same (slice_index_or es k d).cell cells
 
 -- one more of a cell than there was
 pub record OneMore {K : Type 0} (same : K → K → Bool) (cell : Cell K) (before after : List (Counted K)) : Type 0 where

@@ -3,7 +3,7 @@
 // above.
 #![tactic(auto)]
 
-ghost use Rattle.std.specs.Prelude.{◌≡◌, List, ℕ, ◌^◌, ◌≤◌, ◌<◌, length, get_or};
+ghost use Rattle.std.specs.Prelude.{◌≡◌, List, ℕ, ◌^◌, ◌≤◌, ◌<◌, length, slice_index_or};
 ghost use Rattle.columns.specs.declared.cell.Cell.{Cell as Held};
 ghost use Rattle.columns.specs.declared.cell.Cell.TheVariants.{Null};
 ghost use Rattle.columns.specs.Columns.{part_cells};
@@ -40,7 +40,7 @@ pub trait Multiset<K: Keyed> {
 
     // The cell of entry i; null past the entries.
     fn cell(&self, i: usize) -> Cell<K>
-        ensures { result ≡ get_or (cells_of (entries self.now)) i Null };
+        ensures { result ≡ slice_index_or (cells_of (entries self.now)) i Null };
 
     // Puts in one more of a cell, unless it is a new one and there is no place for it.
     fn add(&mut self, cell: Cell<K>) -> bool

@@ -1,8 +1,8 @@
 -- The laws of records: their lists by group, what remains of them, and what batches and columns bring.
 use Rattle.std.proofs.Common.{◌≡◌, ℕ, zero, suc, ◌+◌, ◌-◌, ◌<◌, ◌≤◌, Bool, true, false, cond, ◌&&◌, eqb, leb, ◌⊎◌, List, [], ◌∷◌, ◌++◌, map, length, get_or, ℤ, count_by, filter, Option, sym, refl, ap, ◌∙◌, inl, inr, arith}
-use Rattle.std.specs.List.{between, AllByRecursion as All}
-use Rattle.std.proofs.lemmas.List.Elements.{filter-append}
-use Rattle.std.proofs.ByRecursion.{All-append, All-get_or}
+use Rattle.std.specs.Prelude.{All}
+use Rattle.std.specs.List.{between}
+use Rattle.std.proofs.lemmas.List.Elements.{filter-append, All-append, All-cons, All-get_or, All-head, All-nil, All-tail}
 use Rattle.std.proofs.lemmas.List.{length-map, map-append}
 use Rattle.std.proofs.lemmas.List.Sums.{count_by-le-length, length-filter}
 use Rattle.std.proofs.lemmas.Bool.{cases_Bool, cond_both, cond-true, cond-false, leb-false, leb-true, ne_eqb}
@@ -43,7 +43,7 @@ module _ {K : Type 0} where
   -- the list of a group that no record has
   pub list_none : (j : ℕ) (xs : List (Record K)) → All (λ r. r.group ≡ j → ⊥) xs → list_of j xs ≡ []
   list_none j [] h = refl
-  list_none j (x ∷ xs) h = list_cons j x xs ∙ cond-false (eqb x.group j) (x.cell ∷ list_of j xs) (list_of j xs) (ne_eqb x.group j h.0) ∙ list_none j xs h.1
+  list_none j (x ∷ xs) h = list_cons j x xs ∙ cond-false (eqb x.group j) (x.cell ∷ list_of j xs) (list_of j xs) (ne_eqb x.group j (All-head (λ r. r.group ≡ j → ⊥) x xs h)) ∙ list_none j xs (All-tail (λ r. r.group ≡ j → ⊥) x xs h)
 
   -- the lists that remain keep their cells
   pub list_without : (j n : ℕ) (xs : List (Record K)) → list_of j (without n xs) ≡ list_of (n + j) xs
@@ -72,15 +72,15 @@ module _ {K : Type 0} where
 
   -- the groups that remain are below the count that remains
   pub below_without : (n count : ℕ) (xs : List (Record K)) → All (λ r. r.group < count) xs → All (λ r. r.group < count - n) (without n xs)
-  below_without n count [] h = tt
-  below_without n count (x ∷ xs) h = go (cases_Bool (leb n x.group)) (below_without n count xs h.1)
+  below_without n count [] h = All-nil (λ (r : Record K). r.group < count - n)
+  below_without n count (x ∷ xs) h = go (cases_Bool (leb n x.group)) (below_without n count xs (All-tail (λ (r : Record K). r.group < count) x xs h))
     where
       go : (leb n x.group ≡ true) ⊎ (leb n x.group ≡ false) → All (λ r. r.group < count - n) (without n xs) → All (λ r. r.group < count - n) (without n (x ∷ xs))
       go (inl e) ih =
           let low = leb-true n x.group e in
-          let under = h.0 in
+          let under = All-head (λ (r : Record K). r.group < count) x xs h in
           let lower : x.group - n < count - n = omega arith in
-          rw (without_yes n x xs e) (lower, ih)
+          rw (without_yes n x xs e) (All-cons (λ (r : Record K). r.group < count - n) (lowered n x) (without n xs) lower ih)
       go (inr e) ih = rw (without_no n x xs e) ih
 
   -- of a batch, no more records are accepted than it has groups, and each for one of those
@@ -94,12 +94,15 @@ module _ {K : Type 0} where
         (λ records. length records ≤ suc (length groups)) (λ _. omega arith) (λ _. omega arith)
 
     pub below_accepted : (count i : ℕ) (groups : List ℕ) (cells : List (Cell K)) → All (λ group. group < count) groups → All (λ (r : Record K). r.group < count) (accepted_from ignore marks i groups cells)
-    below_accepted count i [] cells h = tt
-    below_accepted count i (group ∷ groups) [] h = tt
+    below_accepted count i [] cells h = All-nil (λ (r : Record K). r.group < count)
+    below_accepted count i (group ∷ groups) [] h = All-nil (λ (r : Record K). r.group < count)
     below_accepted count i (group ∷ groups) (cell ∷ cells) h =
-        let later = below_accepted count (i + 1) groups cells h.1 in
+        let under = All-head (λ (m : ℕ). m < count) group groups h in
+        let later = below_accepted count (i + 1) groups cells (All-tail (λ (m : ℕ). m < count) group groups h) in
         cond_both (marked marks i && passes ignore cell) (record { group = group; cell = cell } ∷ accepted_from ignore marks (i + 1) groups cells) (accepted_from ignore marks (i + 1) groups cells)
-        (All (λ (r : Record K). r.group < count)) (λ _. (h.0, later)) (λ _. later)
+        (All (λ (r : Record K). r.group < count))
+        (λ _. All-cons (λ (r : Record K). r.group < count) (record { group = group; cell = cell }) (accepted_from ignore marks (i + 1) groups cells) under later)
+        (λ _. later)
 
   -- a cell that goes to a group
   abbrev pub for_group : ℕ → Cell K → Record K
@@ -128,14 +131,15 @@ module _ {K : Type 0} where
 
     -- and each is for one of the groups
     pub below_merged : (count n : ℕ) → n ≤ length groups → All (λ group. group < count) groups → All (λ (r : Record K). r.group < count) (merged_records valid offsets cells groups n)
-    below_merged count zero l h = tt
+    below_merged count zero l h = All-nil (λ (r : Record K). r.group < count)
     below_merged count (suc n) l h =
         All-append (λ (r : Record K). r.group < count) (merged_records valid offsets cells groups n) (Brought n) (below_merged count n (omega arith) h) (row (valid n) (between (start_of offsets n) (start_of offsets (n + 1)) cells))
       where
         each : (part : List (Cell K)) → All (λ (r : Record K). r.group < count) (map (for_group (get_or groups n 0)) part)
-        each [] = tt
-        each (cell ∷ part) = (All-get_or (λ group. group < count) groups n 0 (omega arith) h, each part)
+        each [] = All-nil (λ (r : Record K). r.group < count)
+        each (cell ∷ part) =
+            All-cons (λ (r : Record K). r.group < count) (for_group (get_or groups n 0) cell) (map (for_group (get_or groups n 0)) part) (All-get_or (λ (m : ℕ). m < count) groups n 0 (omega arith) h) (each part)
 
         row : (b : Bool) (part : List (Cell K)) → All (λ (r : Record K). r.group < count) (cond b (map (for_group (get_or groups n 0)) part) [])
         row true part = each part
-        row false part = tt
+        row false part = All-nil (λ (r : Record K). r.group < count)

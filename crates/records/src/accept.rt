@@ -1,7 +1,6 @@
 // The rows of a batch that are accepted: counted, and appended to a store.
-ghost use Rattle.std.specs.Prelude.{◌≡◌, ◌+◌, ◌<◌, ◌≤◌, ◌&&◌, ◌++◌, length, take, drop, Decides, slice_index_or};
+ghost use Rattle.std.specs.Prelude.{◌≡◌, ◌+◌, ◌<◌, ◌≤◌, ◌&&◌, ◌++◌, length, take, drop, All, Decides, slice_index_or};
 ghost use Rattle.std.specs.Option.{option_map};
-ghost use Rattle.std.specs.List.{AllByRecursion as All};
 ghost use Rattle.columns.specs.declared.cell.Cell.TheVariants.{Null};
 ghost use Rattle.columns.specs.Columns.{cells_in};
 ghost use Rattle.records.specs.Batches.{accepted_from, marked, passes};

@@ -1,6 +1,6 @@
 -- A call gives its value exactly if none of its checks applies.
 use Rattle.std.proofs.Common.{◌≡◌, ℕ, ◌<◌, Bool, true, false, leb, [], ◌∷◌, is_ok, Ok, Err, Result, sym, refl, ap, ◌∙◌, ⊎_elim}
-use Rattle.std.specs.List.{AllByRecursion as All}
+use Rattle.std.specs.List.{AllByRecursion}
 use Rattle.std.proofs.lemmas.Bool.{cond-false, cond-true, cases_Bool, both_ways, lt-leb}
 use Rattle.refusals.specs.declared.Refusal.{Refusal}
 use Rattle.refusals.specs.declared.Refusal.TheVariants.{IndexOutOfRange}
@@ -8,7 +8,7 @@ use Rattle.refusals.specs.Checks.{Checks, unless}
 
 -- no check applies
 abbrev pub Pass : Checks → Type 0
-Pass checks = All (λ (check : Bool × Refusal). check.0 ≡ false) checks
+Pass checks = AllByRecursion (λ (check : Bool × Refusal). check.0 ≡ false) checks
 
 pub unless_pass : {T : Type 0} (checks : Checks) (value : T) → Pass checks → unless checks value ≡ Ok value
 unless_pass [] value h = refl

@@ -1,7 +1,6 @@
 -- What a sheet says: its rows, which of them are accepted, and when its bytes are refused.
 use Rattle.std.specs.Prelude.{ℕ, zero, suc, ◌+◌, ◌*◌, ◌/◌, ◌%◌, Bool, true, false, not, ◌&&◌, ◌||◌, List, [], ◌∷◌, map, length, pos, filter, ◌==◌, nat_le, nat_lt}
-use Rattle.std.proofs.Common.{to_z}
-use Rattle.std.specs.Int.{w64}
+use Rattle.std.specs.Int.{w64, cast_signed}
 use Rattle.std.specs.List.{range_with_len}
 use Rattle.refusals.specs.declared.Refusal.TheVariants.{SheetLength, SheetTooLarge, UnknownWordBit, ModuleOutOfRange, IndexOutOfRange}
 use Rattle.refusals.specs.Checks.{Checks}
@@ -17,7 +16,7 @@ row_at rows body i = record {
   group = module_at body i;
   null = (word_at body i / 65536 % 2 == 1);
   filtered = (word_at body i / 131072 % 2 == 1);
-  cue = to_z w64 (le8 body (4 * rows + 8 * i));
+  cue = cast_signed w64 (le8 body (4 * rows + 8 * i));
 }
 
 -- the first n of so many rows

@@ -1,6 +1,5 @@
-use Rattle.std.proofs.Common.{◌<◌, take}
-use Rattle.std.specs.List.{AllByRecursion as All}
+use Rattle.std.specs.Prelude.{ℕ, ◌<◌, slice_index_or}
 use Rattle.records.proofs.accept.groups_below.Given as goal
 
 abbrev pub invariant-loop-group : goal.invariant-loop-group
-invariant-loop-group l = All (λ group. group < l.count) (take l.group-index l.groups)
+invariant-loop-group l = (k : ℕ) (d : ℕ) → k < l.group-index → slice_index_or l.groups k d < l.count
