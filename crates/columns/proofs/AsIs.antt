@@ -59,12 +59,12 @@ module _ (valid : ℕ → Bool) (offsets : List ℤ) (rows : ℕ) where
   span_null : (rows ≡ 0 → ⊥) → first_valid valid rows ≡ rows → merge_span valid offsets rows ≡ Some (0, 0)
   span_null some e = cond-false (eqb rows 0) _ _ (ne_eqb rows 0 some) ∙ cond-true (eqb (first_valid valid rows) rows) _ _ (eq-eqb (first_valid valid rows) rows e)
 
-  module _ (first past : ℕ) (within : first < rows) (first-is : first_valid valid rows ≡ first) (past_is : past_valid valid rows ≡ past) where
+  module _ (first past : ℕ) (within : first < rows) (first_is : first_valid valid rows ≡ first) (past_is : past_valid valid rows ≡ past) where
     third : merge_span valid offsets rows ≡ cond (all_whole_from valid offsets first past) (Some (start_of offsets first, start_of offsets past)) None
     third =
         cond-false (eqb rows 0) _ _ (ne_eqb rows 0 (λ e. omega arith))
         ∙ cond-false (eqb (first_valid valid rows) rows) _ _ (ne_eqb (first_valid valid rows) rows (λ e. omega arith))
-        ∙ ap (λ (x : ℕ). cond (all_whole_from valid offsets x (past_valid valid rows)) (Some (start_of offsets x, start_of offsets (past_valid valid rows))) None) first-is
+        ∙ ap (λ (x : ℕ). cond (all_whole_from valid offsets x (past_valid valid rows)) (Some (start_of offsets x, start_of offsets (past_valid valid rows))) None) first_is
         ∙ ap (λ (x : ℕ). cond (all_whole_from valid offsets first x) (Some (start_of offsets first, start_of offsets x)) None) past_is
 
     span_run : all_whole_from valid offsets first past ≡ true → merge_span valid offsets rows ≡ Some (start_of offsets first, start_of offsets past)
@@ -107,9 +107,9 @@ module _ {K : Type 0} (c : ListColumn K) (p : Part K) where
 
   pub given_run : (first past low high : ℕ) → first < column_rows c → first_valid (row_valid c.map) (column_rows c) ≡ first → past_valid (row_valid c.map) (column_rows c) ≡ past
       → ((k : ℕ) → first ≤ k → k < past → RowWhole c k) → low ≡ start_of c.offsets.now first → high ≡ start_of c.offsets.now past → PartOf c low high p → Given c p
-  given_run first past low high within first-is past_is inside low-is high_is part =
+  given_run first past low high within first_is past_is inside low-is high_is part =
       given_from low high
-      (span_run (row_valid c.map) c.offsets.now (column_rows c) first past within first-is past_is (whole_from (row_valid c.map) c.offsets.now first past inside)
+      (span_run (row_valid c.map) c.offsets.now (column_rows c) first past within first_is past_is (whole_from (row_valid c.map) c.offsets.now first past inside)
       ∙ ap (λ (x : ℕ). Some (x, start_of c.offsets.now past)) (sym low-is) ∙ ap (λ (x : ℕ). Some (low, x)) (sym high_is))
       part
 
@@ -138,13 +138,13 @@ module _ {K : Type 0} (c : ListColumn K) (first past : ℕ) (within : first < co
     (k : ℕ) (from : first ≤ k) (to : k < past) (covers : RowCovers c k) where
   pub gap_there : ColumnGap c
   gap_there =
-      let ne-first : k ≡ first → ⊥ = λ e. both_ways (row_valid c.map k) covers.0 (ap (row_valid c.map) e ∙ low) in
-      let ne-last : k ≡ past - 1 → ⊥ = λ e. both_ways (row_valid c.map k) covers.0 (ap (row_valid c.map) e ∙ high) in
+      let ne_first : k ≡ first → ⊥ = λ e. both_ways (row_valid c.map k) covers.0 (ap (row_valid c.map) e ∙ low) in
+      let ne_last : k ≡ past - 1 → ⊥ = λ e. both_ways (row_valid c.map k) covers.0 (ap (row_valid c.map) e ∙ high) in
       record {
         before = first;
         row = k;
         after = past - 1;
-        in_order = (above ne-first (cases_eq k first), under_last ne-last (cases_eq k (past - 1)), omega arith);
+        in_order = (above ne_first (cases_eq k first), under_last ne_last (cases_eq k (past - 1)), omega arith);
         before_valid = low;
         row_null = covers.0;
         row_covers = covers.1;
@@ -160,5 +160,5 @@ module _ {K : Type 0} (c : ListColumn K) (first past : ℕ) (within : first < co
       under_last ne (inr _) = omega arith
 
   pub gap_none : first_valid (row_valid c.map) (column_rows c) ≡ first → past_valid (row_valid c.map) (column_rows c) ≡ past → column_span c ≡ None
-  gap_none first-is past_is =
-      span_gap (row_valid c.map) c.offsets.now (column_rows c) first past within first-is past_is (whole_not (row_valid c.map) c.offsets.now first past k from to covers.0 covers.1)
+  gap_none first_is past_is =
+      span_gap (row_valid c.map) c.offsets.now (column_rows c) first past within first_is past_is (whole_not (row_valid c.map) c.offsets.now first past k from to covers.0 covers.1)

@@ -36,8 +36,8 @@ module _ {K : Type 0} (order : K → K → Ordering) (same : K → K → Bool) (
       go : (o : Ordering) → order_cells order options a c ≡ o → o ≡ Less
       go Less e = refl
       go Equal e =
-          let ca-is : sign (order_cells order options c a) ≡ pos 0 = lawful.swapped a c ∙ ap (λ (x : Ordering). neg_ℤ (sign x)) e in
-          let cb = lawful.chain c a b (subst (λ (z : ℤ). z ≤ℤ pos 0) (sym ca-is) (record { le = tt })) ab in
+          let ca_is : sign (order_cells order options c a) ≡ pos 0 = lawful.swapped a c ∙ ap (λ (x : Ordering). neg_ℤ (sign x)) e in
+          let cb = lawful.chain c a b (subst (λ (z : ℤ). z ≤ℤ pos 0) (sym ca_is) (record { le = tt })) ab in
           absurd (subst (λ (z : ℤ). z ≤ℤ pos 0) cb_is cb).le
       go Greater e = absurd (subst (λ (x : Ordering). sign x ≤ℤ pos 0) e ac).le
 

@@ -41,11 +41,11 @@ module _ {X : Type 0} (s : List X) (held at : ℕ) (x : X) (le : at ≤ held) (l
       let n : length passed - 1 ≡ held - at = omega (arith, length_passed) in
       let size = length-set s held x in
       let long = length_passed in
-      let r-is : r ≡ x ∷ take (held - at) (drop at s) =
+      let r_is : r ≡ x ∷ take (held - at) (drop at s) =
       e ∙ ap (λ (k : ℕ). drop k passed ++ take k passed) n ∙ ap (λ (zs : List X). zs ++ take (held - at) passed) last_passed ∙ ap (λ (zs : List X). x ∷ zs) rest_passed in
       sym (take-append-drop (held + 1) (put_mid at (held + 1 - at) (set s held x) r))
       ∙ ap (λ (zs : List X). zs ++ drop (held + 1) (put_mid at (held + 1 - at) (set s held x) r))
-      (take-put_mid at (held + 1 - at) (set s held x) r (held + 1) (omega arith) (omega arith) ∙ ap (λ (zs : List X). zs ++ r) (take-set-le at s held x le) ∙ ap (λ (zs : List X). take at s ++ zs) r-is ∙ as_inserted)
+      (take-put_mid at (held + 1 - at) (set s held x) r (held + 1) (omega arith) (omega arith) ∙ ap (λ (zs : List X). zs ++ r) (take-set-le at s held x le) ∙ ap (λ (zs : List X). take at s ++ zs) r_is ∙ as_inserted)
       ∙ ap (λ (zs : List X). insert (take held s) at x ++ zs)
       (drop-put_mid at (held + 1 - at) (set s held x) r (held + 1) (omega arith) (omega arith) (omega arith) ∙ drop-set-lt (held + 1) s held x (omega arith))
 
@@ -74,15 +74,15 @@ module _ {X : Type 0} (s : List X) (held at : ℕ) (x : X) (lt : at < held) (le 
 
   pub removal : (r : List X) → length r ≡ length turning → r ≡ drop 1 turning ++ take 1 turning → put_mid at (held - at) (set s at x) r ≡ without_value s held at x
   removal r l e =
-      let r-is : r ≡ kept ++ x ∷ [] = e ∙ ap (λ (zs : List X). drop 1 zs ++ take 1 zs) turning_is in
-      let long = ap length r-is ∙ length_push kept x in
+      let r_is : r ≡ kept ++ x ∷ [] = e ∙ ap (λ (zs : List X). drop 1 zs ++ take 1 zs) turning_is in
+      let long = ap length r_is ∙ length_push kept x in
       let size = length-set s at x in
       let few = length_kept in
       sym (take-append-drop held (put_mid at (held - at) (set s at x) r))
       ∙ ap (λ (zs : List X). zs ++ drop held (put_mid at (held - at) (set s at x) r)) (take-put_mid at (held - at) (set s at x) r held (omega arith) (omega arith))
       ∙ ap (λ (zs : List X). (take at (set s at x) ++ r) ++ zs) (drop-put_mid at (held - at) (set s at x) r held (omega arith) (omega arith) (omega arith) ∙ drop-set-lt held s at x lt)
       ∙ ap (λ (zs : List X). (zs ++ r) ++ drop held s) (take-set s at x)
-      ∙ ap (λ (zs : List X). (take at s ++ zs) ++ drop held s) r-is
+      ∙ ap (λ (zs : List X). (take at s ++ zs) ++ drop held s) r_is
       ∙ ap (λ (zs : List X). zs ++ drop held s) (sym (append_assoc (take at s) kept (x ∷ [])))
       ∙ append_assoc (take at s ++ kept) (x ∷ []) (drop held s)
       ∙ ap (λ (zs : List X). zs ++ x ∷ drop held s) as_removed

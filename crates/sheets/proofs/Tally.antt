@@ -49,14 +49,14 @@ module _ (rows : ℕ) (body : List ℕ) (i accepted nulls : ℕ) (tally : Tally 
       let grown : accepted_rows (first_rows rows body (i + 1)) ≡ accepted_rows (first_rows rows body i) ++ (row ∷ []) =
       more ∙ ap (λ (t : List Row). accepted_rows (first_rows rows body i) ++ t) (cond-true _ _ _ e) in
       let one_more = ap length grown ∙ length-append (accepted_rows (first_rows rows body i)) (row ∷ []) in
-      let nulls-more =
+      let nulls_more =
       ap (λ (t : List Row). length (filter (λ r. r.null) t)) grown
       ∙ ap length (filter-append (λ (r : Row). r.null) (accepted_rows (first_rows rows body i)) (row ∷ []))
       ∙ length-append (filter (λ r. r.null) (accepted_rows (first_rows rows body i))) (cond row.null (row ∷ []) [])
       ∙ ap (λ (k : ℕ). length (filter (λ r. r.null) (accepted_rows (first_rows rows body i))) + k) (length_one row.null row) in
       record {
         accepted_is = omega (arith, one_more, tally.accepted_is);
-        nulls_is = n-is ∙ ap (λ (k : ℕ). k + bool_byte row.null) tally.nulls_is ∙ sym nulls-more;
+        nulls_is = n-is ∙ ap (λ (k : ℕ). k + bool_byte row.null) tally.nulls_is ∙ sym nulls_more;
         accepted_le = omega (arith, tally.accepted_le);
         nulls_le = omega (arith, tally.nulls_le, bool_byte_le row.null);
       }
@@ -67,7 +67,7 @@ pub tally_all : (rows modules : ℕ) (body : List ℕ) (accepted nulls : ℕ) �
 tally_all rows modules body accepted nulls tally =
     let long = length-map-range_with_len (row_at rows body) 0 rows in
     let both = length-filter_both (λ (r : Row). r.filtered) (λ r. not r.filtered) (λ _. refl) (rows_at rows body) in
-    let filtered-is : rows - accepted ≡ length (filter (λ r. r.filtered) (rows_at rows body)) = omega (arith, long, both, tally.accepted_is) in
+    let filtered_is : rows - accepted ≡ length (filter (λ r. r.filtered) (rows_at rows body)) = omega (arith, long, both, tally.accepted_is) in
     let accepted_is = tally.accepted_is in
     let nulls_is = tally.nulls_is in
     cc

@@ -44,11 +44,11 @@ returns-then-not-whole_between g c =
     let after = c.past_valid-past.ensures.after in
     let last = c.past_valid-past.ensures.found in
     let order = ends_order (row_valid c.args.self.now.map) (column_rows c.args.self.now) c.first_valid-first.result c.past_valid-past.result within before found under after last in
-    let first-is = ends_first (row_valid c.args.self.now.map) (column_rows c.args.self.now) c.first_valid-first.result c.past_valid-past.result within before found under after last in
+    let first_is = ends_first (row_valid c.args.self.now.map) (column_rows c.args.self.now) c.first_valid-first.result c.past_valid-past.result within before found under after last in
     let past_is = ends_past (row_valid c.args.self.now.map) (column_rows c.args.self.now) c.first_valid-first.result c.past_valid-past.result within before found under after last in
     let hole = c.if-not-whole_between.ensures in
     record {
-      part = gap_none c.args.self.now c.first_valid-first.result c.past_valid-past.result within found (omega arith) under (last (omega arith)) hole.0 hole.1 hole.2 hole.3 first-is past_is;
+      part = gap_none c.args.self.now c.first_valid-first.result c.past_valid-past.result within found (omega arith) under (last (omega arith)) hole.0 hole.1 hole.2 hole.3 first_is past_is;
       joined = gap_there c.args.self.now c.first_valid-first.result c.past_valid-past.result within found (omega arith) under (last (omega arith)) hole.0 hole.1 hole.2 hole.3;
     }
 
@@ -76,12 +76,12 @@ returns g c =
     let after = c.past_valid-past.ensures.after in
     let last = c.past_valid-past.ensures.found in
     let order = ends_order (row_valid c.args.self.now.map) (column_rows c.args.self.now) c.first_valid-first.result c.past_valid-past.result within before found under after last in
-    let first-is = ends_first (row_valid c.args.self.now.map) (column_rows c.args.self.now) c.first_valid-first.result c.past_valid-past.result within before found under after last in
+    let first_is = ends_first (row_valid c.args.self.now.map) (column_rows c.args.self.now) c.first_valid-first.result c.past_valid-past.result within before found under after last in
     let past_is = ends_past (row_valid c.args.self.now.map) (column_rows c.args.self.now) c.first_valid-first.result c.past_valid-past.result within before found under after last in
     let inside = c.if-not-whole_between.ensures in
     record {
       part =
-          given_run c.args.self.now c.cut-2.result c.first_valid-first.result c.past_valid-past.result c.start-from-2.result c.start-to-2.result within first-is past_is inside
+          given_run c.args.self.now c.cut-2.result c.first_valid-first.result c.past_valid-past.result c.start-from-2.result c.start-to-2.result within first_is past_is inside
           c.start-from-2.ensures.value c.start-to-2.ensures.value c.cut-2.ensures;
       joined =
           joined_run c.args.self.now c.cut-2.result c.first_valid-first.result c.past_valid-past.result c.start-from-2.result c.start-to-2.result (omega arith) under before after inside
