@@ -10,19 +10,19 @@ module _ {K : Type 0} (f : ℕ → Bool) where
   length_cells s [] = refl
   length_cells s (cue ∷ cues) = ap suc (length_cells (s + 1) cues)
 
-  pub get_d_cells : (s : ℕ) (cues : List K) (i : ℕ) (d : K) → i < length cues → get_or (cells_from f s cues) i Null ≡ cond (f (s + i)) (Cue (get_or cues i d)) Null
-  get_d_cells s [] i d h = absurd (omega arith)
-  get_d_cells s (cue ∷ cues) zero d h = ap (λ (k : ℕ). cond (f k) (Cue cue) Null) (sym (add-zero s))
-  get_d_cells s (cue ∷ cues) (suc i) d h =
+  pub get_or_cells : (s : ℕ) (cues : List K) (i : ℕ) (d : K) → i < length cues → get_or (cells_from f s cues) i Null ≡ cond (f (s + i)) (Cue (get_or cues i d)) Null
+  get_or_cells s [] i d h = absurd (omega arith)
+  get_or_cells s (cue ∷ cues) zero d h = ap (λ (k : ℕ). cond (f k) (Cue cue) Null) (sym (add-zero s))
+  get_or_cells s (cue ∷ cues) (suc i) d h =
       let e : s + 1 + i ≡ s + suc i = omega arith in
-      get_d_cells (s + 1) cues i d (omega arith) ∙ ap (λ (k : ℕ). cond (f k) (Cue (get_or cues i d)) Null) e
+      get_or_cells (s + 1) cues i d (omega arith) ∙ ap (λ (k : ℕ). cond (f k) (Cue (get_or cues i d)) Null) e
 
   pub cell_when_valid : (s : ℕ) (cues : List K) (i k : ℕ) (d : K) → i < length cues → s + i ≡ k → f k ≡ true → get_or (cells_from f s cues) i Null ≡ Cue (get_or cues i d)
-  cell_when_valid s cues i k d h e v = get_d_cells s cues i d h ∙ cond-true (f (s + i)) (Cue (get_or cues i d)) Null (ap f e ∙ v)
+  cell_when_valid s cues i k d h e v = get_or_cells s cues i d h ∙ cond-true (f (s + i)) (Cue (get_or cues i d)) Null (ap f e ∙ v)
 
   pub cell_when_null : (s : ℕ) (cues : List K) (i k : ℕ) → i < length cues → s + i ≡ k → f k ≡ false → get_or (cells_from f s cues) i Null ≡ Null
   cell_when_null s [] i k h e v = absurd (omega arith)
-  cell_when_null s (cue ∷ cues) i k h e v = get_d_cells s (cue ∷ cues) i cue h ∙ cond-false (f (s + i)) (Cue (get_or (cue ∷ cues) i cue)) Null (ap f e ∙ v)
+  cell_when_null s (cue ∷ cues) i k h e v = get_or_cells s (cue ∷ cues) i cue h ∙ cond-false (f (s + i)) (Cue (get_or (cue ∷ cues) i cue)) Null (ap f e ∙ v)
 
   pub take_cells : (n s : ℕ) (cues : List K) → take n (cells_from f s cues) ≡ cells_from f s (take n cues)
   take_cells zero s cues = refl

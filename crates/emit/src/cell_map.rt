@@ -1,5 +1,5 @@
 // Validity maps that are cleared first and then set bit by bit.
-ghost use Rattle.std.specs.Prelude.{◌≡◌, ◌/◌, ◌<◌, ◌≤◌, true, not, ◌++◌, length, drop, set, replicate, slice_set};
+ghost use Rattle.std.specs.Prelude.{◌≡◌, ◌/◌, ◌<◌, ◌≤◌, true, not, ◌++◌, length, drop, replicate, slice_set};
 ghost use Rattle.bitmap.specs.Bits.{bytes_for};
 ghost use Rattle.records.specs.Batches.{is_null};
 ghost use Rattle.records.specs.Lists.{cue_of};

@@ -1,5 +1,5 @@
 // One list of the store.
-ghost use Rattle.std.specs.Prelude.{◌≡◌, ℕ, ◌<◌, ◌≤◌, ◌++◌, map, length, take, drop, slice_index_or};
+ghost use Rattle.std.specs.Prelude.{◌≡◌, ℕ, ◌<◌, ◌≤◌, ◌++◌, map, length, take, drop, slice_index};
 ghost use Rattle.bitmap.specs.Bits.{bytes_for};
 ghost use Rattle.bitmap.specs.Maps.{MapWritten};
 ghost use Rattle.records.specs.Lists.{cell_valid, cue_of};
@@ -14,7 +14,7 @@ use records::Record;
 fn copy_cells<K: Keyed>(records: &[Record<K>], j: u32, cues: &mut [K], cell_map: &mut [u8])
     requires room { length (list_of j records.now) ≤ length cues.old }
     requires bytes { bytes_for (length (list_of j records.now)) ≤ length cell_map.old }
-    requires clear { (k : ℕ) → k < bytes_for (length (list_of j records.now)) → slice_index_or cell_map.old k 0 ≡ 0 }
+    requires clear { (k : ℕ) → k < bytes_for (length (list_of j records.now)) → slice_index cell_map.old k ≡ 0 }
     ensures cues { cues.new ≡ map (cue_of K.Keyed.empty) (list_of j records.now) ++ drop (length (list_of j records.now)) cues.old }
     ensures marks { MapWritten (cell_valid (list_of j records.now)) (length (list_of j records.now)) cell_map.old cell_map.new }
 {

@@ -14,23 +14,23 @@ same_padded m n xs ys spare spare' e front =
     let y = padded_is n ys spare' in
     cc
 
-get_d_zeros : (n i : ℕ) → ◌≡◌ {A = ℕ} (get_or (replicate n 0) i 0) 0
-get_d_zeros zero i = refl
-get_d_zeros (suc n) zero = refl
-get_d_zeros (suc n) (suc i) = get_d_zeros n i
+get_or_zeros : (n i : ℕ) → ◌≡◌ {A = ℕ} (get_or (replicate n 0) i 0) 0
+get_or_zeros zero i = refl
+get_or_zeros (suc n) zero = refl
+get_or_zeros (suc n) (suc i) = get_or_zeros n i
 
-get_d_front : (n : ℕ) (xs : List ℕ) → drop n xs ≡ replicate (16 - n) 0 → (i : ℕ) → get_or (take n xs) i 0 ≡ get_or xs i 0
-get_d_front n xs spare i =
+get_or_front : (n : ℕ) (xs : List ℕ) → drop n xs ≡ replicate (16 - n) 0 → (i : ℕ) → get_or (take n xs) i 0 ≡ get_or xs i 0
+get_or_front n xs spare i =
     ⊎_elim
     (λ inside. get_or-take n xs i 0 inside)
     (λ past.
     let place : n + (i - n) ≡ i = omega arith in
     get_or_past (take n xs) i 0 (omega (arith, length-take n xs))
-    ∙ sym (get_d_zeros (16 - n) (i - n))
+    ∙ sym (get_or_zeros (16 - n) (i - n))
     ∙ ap (λ zs. get_or zs (i - n) 0) (sym spare)
     ∙ get_or-drop n xs (i - n) 0
     ∙ ap (λ k. get_or xs k 0) place)
     (cases_lt i n)
 
 pub word_at_front : (n : ℕ) (xs : List ℕ) → drop n xs ≡ replicate (16 - n) 0 → (p : ℕ) → word_at (take n xs) p ≡ word_at xs p
-word_at_front n xs spare p = simp (get_d_front n xs spare)
+word_at_front n xs spare p = simp (get_or_front n xs spare)

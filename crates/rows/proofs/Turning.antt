@@ -19,8 +19,8 @@ module _ {X : Type 0} (slots : List X) (start : ℕ) (within : start < length sl
       let c = length-take start slots in
       omega arith
 
-  get_d_live : (n k : ℕ) (d : X) → n ≤ length slots → k < n → get_or (live start n slots) k d ≡ get_or slots (place_at (length slots) start k) d
-  get_d_live n k d h l =
+  get_or_live : (n k : ℕ) (d : X) → n ≤ length slots → k < n → get_or (live start n slots) k d ≡ get_or slots (place_at (length slots) start k) d
+  get_or_live n k d h l =
       ⊎_elim
       (λ near.
       get_or-take n (drop start slots ++ take start slots) k d l
@@ -78,9 +78,9 @@ module _ {X : Type 0} (slots : List X) (start n k : ℕ) (within : start < lengt
       let rest = length-drop k (live start n slots) in
       same_lists (live (place_at (length slots) start k) (n - k) slots) (drop k (live start n slots)) (omega arith)
       (λ j d h.
-      get_d_live slots (place_at (length slots) start k) next (n - k) j d (omega arith) (omega arith)
+      get_or_live slots (place_at (length slots) start k) next (n - k) j d (omega arith) (omega arith)
       ∙ ap (λ (p : ℕ). get_or slots p d) (place_on slots start within k j (omega arith))
-      ∙ sym (get_or-drop k (live start n slots) j d ∙ get_d_live slots start within n (k + j) d fits (omega arith)))
+      ∙ sym (get_or-drop k (live start n slots) j d ∙ get_or_live slots start within n (k + j) d fits (omega arith)))
 
 -- a push: ys are the slots after it
 module _ {X : Type 0} (slots ys : List X) (start n : ℕ) (value : X) (within : start < length slots) (room : n < length slots) (ys-are : ys ≡ set slots (place_at (length slots) start n) value) where
@@ -90,7 +90,7 @@ module _ {X : Type 0} (slots ys : List X) (start n : ℕ) (value : X) (within : 
   -- what stands k places on
   at : (k : ℕ) (d : X) → k < n + 1 → get_or (live start (n + 1) ys) k d ≡ get_or (set slots (place_at (length slots) start n) value) (place_at (length slots) start k) d
   at k d h =
-      get_d_live ys start (omega (arith, same_length)) (n + 1) k d (omega (arith, same_length)) h
+      get_or_live ys start (omega (arith, same_length)) (n + 1) k d (omega (arith, same_length)) h
       ∙ ap (λ (m : ℕ). get_or ys (place_at m start k) d) same_length ∙ ap (λ (zs : List X). get_or zs (place_at (length slots) start k) d) ys-are
 
   pub push_values : live start (n + 1) ys ≡ live start n slots ++ value ∷ []
@@ -104,7 +104,7 @@ module _ {X : Type 0} (slots ys : List X) (start n : ℕ) (value : X) (within : 
       older : (k : ℕ) (d : X) → k < n → get_or (live start (n + 1) ys) k d ≡ get_or (live start n slots ++ value ∷ []) k d
       older k d h =
           at k d (omega arith) ∙ get_or-set_other slots (place_at (length slots) start n) (place_at (length slots) start k) value d (place_apart slots start within k n h room)
-          ∙ sym (get_d_live slots start within n k d (omega arith) h) ∙ sym (get_or_append_left (live start n slots) (value ∷ []) d k (let e = length_live slots start within n (omega arith) in omega arith))
+          ∙ sym (get_or_live slots start within n k d (omega arith) h) ∙ sym (get_or_append_left (live start n slots) (value ∷ []) d k (let e = length_live slots start within n (omega arith) in omega arith))
 
       newest : (k : ℕ) (d : X) → k ≡ n → get_or (live start (n + 1) ys) k d ≡ get_or (live start n slots ++ value ∷ []) k d
       newest k d e =
