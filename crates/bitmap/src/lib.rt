@@ -3,41 +3,32 @@
 
 mod validity;
 
-ghost use Rattle.std.specs.Prelude.{◌≡◌, ℕ, ◌+◌, ◌-◌, ◌*◌, ◌/◌, ◌≤◌, min, ◌&&◌, length, is_ok, if◌then◌else◌, MatchBool};
-ghost use Rattle.refusals.specs.Checks.{unless};
+ghost use Rattle.std.specs.Prelude.{◌≡◌, ℕ, ◌+◌, ◌-◌, ◌*◌, ◌/◌, ◌≤◌, min, ◌&&◌, length, is_ok, MatchBool, IfOk};
+ghost use Rattle.refusals.specs.Checks.{outcome_of, unless};
 ghost use Rattle.bitmap.specs.Bits.{bytes_for, packed, valid_at};
 ghost use Rattle.bitmap.specs.Counts.{valid_in};
 ghost use Rattle.bitmap.specs.Maps.{MapWritten, both_valid, flag_at, map_checks, null_count, row_checks, row_count, row_valid, unite_checks, write_checks};
 
-use refusals::{Checked, Refusal};
+use refusals::Refusal;
 pub use validity::Validity;
 
 // The most rows that a map may have: as many as cells may lie behind the lists of a column.
 pub const MAX_ROWS: usize = 1_048_576;
 
 impl<'a> Validity<'a> {
-    // The map of so many rows over these bytes; the map of no rows where it is refused.
-    pub fn new(bytes: &'a [u8], rows: usize) -> Checked<Validity<'a>>
-        ensures outcome { result.outcome ≡ unless (map_checks bytes.now rows) tt }
-        ensures rows { row_count result.value ≡ (if is_ok result.outcome then rows else 0) }
-        ensures valid { (i : ℕ) → row_valid result.value i ≡ valid_at bytes.now i }
+    // The map of so many rows over these bytes.
+    pub fn new(bytes: &'a [u8], rows: usize) -> Result<Validity<'a>, Refusal>
+        ensures outcome { outcome_of result ≡ unless (map_checks bytes.now rows) tt }
+        ensures rows { IfOk result (λ m. row_count m ≡ rows) }
+        ensures valid { IfOk result (λ m. (i : ℕ) → row_valid m i ≡ valid_at bytes.now i) }
     {
         if rows > MAX_ROWS {
-            return Checked {
-                value: Validity { bytes, rows: 0 },
-                outcome: Err(Refusal::TooManyRows),
-            };
+            return Err(Refusal::TooManyRows);
         }
         if (rows + 7) / 8 > bytes.len() {
-            return Checked {
-                value: Validity { bytes, rows: 0 },
-                outcome: Err(Refusal::MapTooShort),
-            };
+            return Err(Refusal::MapTooShort);
         }
-        Checked {
-            value: Validity { bytes, rows },
-            outcome: Ok(()),
-        }
+        Ok(Validity { bytes, rows })
     }
 
     pub fn rows(&self) -> usize
