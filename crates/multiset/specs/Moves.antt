@@ -1,11 +1,10 @@
 -- What the moves of a multiset promise: `before` as a call begins, `after` as it ends.
-use Rattle.std.specs.Prelude.{◌≡◌, List, Bool, true, false, ℕ, length}
-use Rattle.columns.specs.declared.cell.Cell.{Cell}
+use Rattle.std.specs.Prelude.{◌≡◌, List, Bool, true, false, ℕ, length, Option}
 use Rattle.rows.specs.declared.counted.Counted.{Counted}
 use Rattle.multiset.specs.Counts.{weigh, Live, OneMore}
 
 -- A multiset of type M: when it is in order, its entries, how many it has place for, and the relation by which a call moves it.
-module _ {K M : Type 0} (same : K → K → Bool) (whole : M → Type 0) (entries : M → List (Counted K)) (places : M → ℕ) (step : M → Cell K → M → Type 0) (cell : Cell K) (before after : M) where
+module _ {K M : Type 0} (same : K → K → Bool) (whole : M → Type 0) (entries : M → List (Counted K)) (places : M → ℕ) (step : M → Option K → M → Type 0) (cell : Option K) (before after : M) where
   -- one more of the cell was put in, by such a step
   pub record Added : Type 0 where
     pub kept : whole after

@@ -1,27 +1,26 @@
 -- The search for a cell's place by halving: what is known of the cells below and above what is left.
-use Rattle.std.proofs.Common.{◌≡◌, ℕ, ◌+◌, ◌<◌, ◌≤◌, Bool, List, length, get_or, take, ℤ, pos, neg_ℤ, ◌≤ℤ◌, Ordering, Less, Equal, Greater, sym, refl, ap, ◌∙◌, subst, ⊎_elim, arith}
+use Rattle.std.proofs.Common.{◌≡◌, ℕ, ◌+◌, ◌<◌, ◌≤◌, Bool, List, length, get_or, take, ℤ, pos, neg_ℤ, ◌≤ℤ◌, Ordering, Less, Equal, Greater, sym, refl, ap, ◌∙◌, subst, ⊎_elim, arith, Option}
 use Rattle.std.proofs.lemmas.List.{get_or_read, get_or-take}
 use Rattle.std.proofs.lemmas.Bool.{cases_lt}
 use Rattle.kinds.specs.Orders.{sign}
-use Rattle.columns.specs.declared.cell.Cell.{Cell}
 use Rattle.rows.specs.declared.order.SortOptions.{SortOptions}
 use Rattle.rows.specs.Orders.{LawfulCells, order_cells}
 use Rattle.rows.specs.declared.counted.Counted.{Counted}
 use Rattle.rows.specs.Sorted.{Rising}
 
 -- the cells below a place come before a cell
-abbrev pub Before : {K : Type 0} → (Cell K → Cell K → Ordering) → List (Counted K) → Cell K → ℕ → Type 0
+abbrev pub Before : {K : Type 0} → (Option K → Option K → Ordering) → List (Counted K) → Option K → ℕ → Type 0
 Before {K} order row cell low = (k : ℕ) (d : Counted K) → k < low → order (get_or row k d).cell cell ≡ Less
 
 -- the cells from a place on do not
-abbrev pub After : {K : Type 0} → (Cell K → Cell K → Ordering) → List (Counted K) → Cell K → ℕ → Type 0
+abbrev pub After : {K : Type 0} → (Option K → Option K → Ordering) → List (Counted K) → Option K → ℕ → Type 0
 After {K} order row cell high = (k : ℕ) (d : Counted K) → high ≤ k → k < length row → order (get_or row k d).cell cell ≡ Less → ⊥
 
 module _ {K : Type 0} (order : K → K → Ordering) (same : K → K → Bool) (options : SortOptions) (lawful : LawfulCells order same options) where
-  at_most : (a b : Cell K) (o : Ordering) → order_cells order options a b ≡ o → sign o ≤ℤ pos 0 → sign (order_cells order options a b) ≤ℤ pos 0
+  at_most : (a b : Option K) (o : Ordering) → order_cells order options a b ≡ o → sign o ≤ℤ pos 0 → sign (order_cells order options a b) ≤ℤ pos 0
   at_most a b o e h = subst (λ (x : Ordering). sign x ≤ℤ pos 0) (sym e) h
 
-  less_trans : (a b c : Cell K) → order_cells order options a b ≡ Less → order_cells order options b c ≡ Less → order_cells order options a c ≡ Less
+  less_trans : (a b c : Option K) → order_cells order options a b ≡ Less → order_cells order options b c ≡ Less → order_cells order options a c ≡ Less
   less_trans a b c h k = go (order_cells order options a c) refl
     where
       ab : sign (order_cells order options a b) ≤ℤ pos 0
@@ -41,7 +40,7 @@ module _ {K : Type 0} (order : K → K → Ordering) (same : K → K → Bool) (
           absurd (subst (λ (z : ℤ). z ≤ℤ pos 0) cb_is cb).le
       go Greater e = absurd (subst (λ (x : Ordering). sign x ≤ℤ pos 0) e ac).le
 
-  module _ (row : List (Counted K)) (cell : Cell K) where
+  module _ (row : List (Counted K)) (cell : Option K) where
     pub before_more : (middle : ℕ) → middle < length row → Rising (order_cells order options) row → ((d : Counted K) → order_cells order options (get_or row middle d).cell cell ≡ Less) → Before (order_cells order options) row cell (middle + 1)
     before_more middle within rises here k d h =
         ⊎_elim

@@ -1,10 +1,8 @@
 -- The order of cells keeps the laws of an ordered kind, if the order of their cues does.
-use Rattle.std.proofs.Common.{◌≡◌, Bool, true, false, cond, not, ℤ, pos, neg_ℤ, ◌≤ℤ◌, Ordering, Less, Equal, Greater, sym, refl, ap, ◌∙◌, subst}
+use Rattle.std.proofs.Common.{◌≡◌, Bool, true, false, cond, not, ℤ, pos, neg_ℤ, ◌≤ℤ◌, Ordering, Less, Equal, Greater, sym, refl, ap, ◌∙◌, subst, Option, Some, None}
 use Rattle.std.specs.Ordering.{ordering_reverse}
 use Rattle.kinds.specs.Orders.{sign}
-use Rattle.columns.specs.declared.cell.Cell.{Cell}
-use Rattle.columns.specs.declared.cell.Cell.TheVariants.{Null, Cue}
-use Rattle.columns.specs.CellKinds.{same_cell}
+use Rattle.kinds.specs.CellKinds.{same_cell}
 use Rattle.rows.specs.declared.order.SortOptions.{SortOptions}
 use Rattle.rows.specs.Orders.{LawfulCells, order_cells}
 
@@ -44,53 +42,53 @@ module _ {K : Type 0} (order : K → K → Ordering) (same : K → K → Bool) (
   turned_chain false a b c h k = chain' a b c h k
 
   module _ (options : SortOptions) where
-    zero_same_cells : (a b : Cell K) → sign (order_cells order options a b) ≡ pos 0 → same_cell same a b ≡ true
-    zero_same_cells Null Null h = refl
-    zero_same_cells Null (Cue b) h = go options.nulls_first h
+    zero_same_cells : (a b : Option K) → sign (order_cells order options a b) ≡ pos 0 → same_cell same a b ≡ true
+    zero_same_cells None None h = refl
+    zero_same_cells None (Some b) h = go options.nulls_first h
       where
         go : (first : Bool) → sign (cond first Less Greater) ≡ pos 0 → false ≡ true
         go true e = cc
         go false e = cc
-    zero_same_cells (Cue a) Null h = go options.nulls_first h
+    zero_same_cells (Some a) None h = go options.nulls_first h
       where
         go : (first : Bool) → sign (cond (not first) Less Greater) ≡ pos 0 → false ≡ true
         go true e = cc
         go false e = cc
-    zero_same_cells (Cue a) (Cue b) h = zero-same' a b (turned_zero options.descending (order a b) h)
+    zero_same_cells (Some a) (Some b) h = zero-same' a b (turned_zero options.descending (order a b) h)
 
-    same_zero_cells : (a b : Cell K) → same_cell same a b ≡ true → sign (order_cells order options a b) ≡ pos 0
-    same_zero_cells Null Null h = refl
-    same_zero_cells Null (Cue b) h = cc
-    same_zero_cells (Cue a) Null h = cc
-    same_zero_cells (Cue a) (Cue b) h = zero_turned options.descending (order a b) (same-zero' a b h)
+    same_zero_cells : (a b : Option K) → same_cell same a b ≡ true → sign (order_cells order options a b) ≡ pos 0
+    same_zero_cells None None h = refl
+    same_zero_cells None (Some b) h = cc
+    same_zero_cells (Some a) None h = cc
+    same_zero_cells (Some a) (Some b) h = zero_turned options.descending (order a b) (same-zero' a b h)
 
-    swapped_cells : (a b : Cell K) → sign (order_cells order options b a) ≡ neg_ℤ (sign (order_cells order options a b))
-    swapped_cells Null Null = refl
-    swapped_cells Null (Cue b) = go options.nulls_first
+    swapped_cells : (a b : Option K) → sign (order_cells order options b a) ≡ neg_ℤ (sign (order_cells order options a b))
+    swapped_cells None None = refl
+    swapped_cells None (Some b) = go options.nulls_first
       where
         go : (first : Bool) → sign (cond (not first) Less Greater) ≡ neg_ℤ (sign (cond first Less Greater))
         go true = refl
         go false = refl
-    swapped_cells (Cue a) Null = go options.nulls_first
+    swapped_cells (Some a) None = go options.nulls_first
       where
         go : (first : Bool) → sign (cond first Less Greater) ≡ neg_ℤ (sign (cond (not first) Less Greater))
         go true = refl
         go false = refl
-    swapped_cells (Cue a) (Cue b) = turned_swapped options.descending a b
+    swapped_cells (Some a) (Some b) = turned_swapped options.descending a b
 
     -- where a null is at most a cue, nulls come first, and where a cue is at most a null, they do not
     null_low : (first : Bool) → sign (cond first Less Greater) ≤ℤ pos 0 → sign (cond (not first) Less Greater) ≤ℤ pos 0 → ⊥
     null_low true h k = k.le
     null_low false h k = h.le
 
-    chain_cells : (a b c : Cell K) → sign (order_cells order options a b) ≤ℤ pos 0 → sign (order_cells order options b c) ≤ℤ pos 0 → sign (order_cells order options a c) ≤ℤ pos 0
-    chain_cells Null Null c h k = k
-    chain_cells Null (Cue b) Null h k = record { le = tt }
-    chain_cells Null (Cue b) (Cue c) h k = h
-    chain_cells (Cue a) Null Null h k = h
-    chain_cells (Cue a) Null (Cue c) h k = absurd (null_low options.nulls_first k h)
-    chain_cells (Cue a) (Cue b) Null h k = k
-    chain_cells (Cue a) (Cue b) (Cue c) h k = turned_chain options.descending a b c h k
+    chain_cells : (a b c : Option K) → sign (order_cells order options a b) ≤ℤ pos 0 → sign (order_cells order options b c) ≤ℤ pos 0 → sign (order_cells order options a c) ≤ℤ pos 0
+    chain_cells None None c h k = k
+    chain_cells None (Some b) None h k = record { le = tt }
+    chain_cells None (Some b) (Some c) h k = h
+    chain_cells (Some a) None None h k = h
+    chain_cells (Some a) None (Some c) h k = absurd (null_low options.nulls_first k h)
+    chain_cells (Some a) (Some b) None h k = k
+    chain_cells (Some a) (Some b) (Some c) h k = turned_chain options.descending a b c h k
 
     pub lawful_cells : LawfulCells order same options
     lawful_cells = record { zero_same = zero_same_cells; same_zero = same_zero_cells; swapped = swapped_cells; chain = chain_cells }

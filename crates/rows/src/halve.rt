@@ -5,7 +5,6 @@ ghost use Rattle.rows.specs.Sorted.{Place, Rising};
 
 use crate::counted::Counted;
 use crate::order::{SortOptions, compare_cells};
-use columns::Cell;
 use kinds::Ordered;
 use std::cmp::Ordering;
 
@@ -14,7 +13,7 @@ pub fn find_place<K: Ordered>(
     options: SortOptions,
     row: &[Counted<K>],
     held: usize,
-    cell: &Cell<K>,
+    cell: &Option<K>,
 ) -> usize
     ensures bound { (result ≤ held) × (result ≤ length row.now) }
     ensures place { Rising (order_cells K.Ordered.order options) (take held row.now) → Place (order_cells K.Ordered.order options) (take held row.now) cell.now result }

@@ -3,7 +3,6 @@ ghost use Rattle.std.specs.Prelude.{◌≡◌, if◌then◌else◌};
 ghost use Rattle.std.specs.declared.cmp.Ordering.TheVariants.{Less, Greater};
 ghost use Rattle.rows.specs.Orders.{LawfulCells, order_cells};
 
-use columns::Cell;
 use kinds::Ordered;
 use std::cmp::Ordering;
 
@@ -15,15 +14,15 @@ pub struct SortOptions {
 }
 
 // How one cell stands to another.
-pub fn compare_cells<K: Ordered>(options: SortOptions, a: &Cell<K>, b: &Cell<K>) -> Ordering
+pub fn compare_cells<K: Ordered>(options: SortOptions, a: &Option<K>, b: &Option<K>) -> Ordering
     ensures order { result ≡ order_cells K.Ordered.order options a.now b.now }
     ensures lawful { LawfulCells K.Ordered.order K.Keyed.same options }
 {
     match (a, b) {
-        (Cell::Null, Cell::Null) => Ordering::Equal,
-        (Cell::Null, Cell::Cue(_)) => before(options.nulls_first),
-        (Cell::Cue(_), Cell::Null) => before(!options.nulls_first),
-        (Cell::Cue(one), Cell::Cue(two)) => {
+        (None, None) => Ordering::Equal,
+        (None, Some(_)) => before(options.nulls_first),
+        (Some(_), None) => before(!options.nulls_first),
+        (Some(one), Some(two)) => {
             let order = one.compare(two);
             if options.descending {
                 order.reverse()
