@@ -1,5 +1,5 @@
 -- The laws of the texts' equality and order, over any bytes.
-use Rattle.std.specs.Prelude.{◌≡◌, ℕ, true, List, [], ◌∷◌, pos, neg_ℤ, ◌≤ℤ◌, Decides, refl}
+use Rattle.std.specs.Prelude.{◌≡◌, ℕ, true, List, [], ◌∷◌, pos, neg_ℤ, ◌≤ℤ◌, ◌↔◌, IsTrue, refl}
 use Rattle.std.proofs.Common.{sym, subst, arith, rules}
 use Rattle.std.specs.Cmp.Lexicographic.{slice_cmp}
 use Rattle.std.specs.Ordering.{nat_cmp}
@@ -8,7 +8,7 @@ use Rattle.std.proofs.lemmas.Bool.Decides.{nat_tests, same_from_decides, Decides
 use Rattle.kinds.specs.Orders.{sign}
 use Rattle.kinds.specs.Texts.{order_bytes, same_bytes}
 
-pub same_decides : (xs ys : List ℕ) → Decides (same_bytes xs ys) (xs ≡ ys)
+pub same_decides : (xs ys : List ℕ) → IsTrue (same_bytes xs ys) ↔ (xs ≡ ys)
 same_decides = compares_Decides same_bytes (search rules)
 
 pub same_swap : (xs ys : List ℕ) → same_bytes xs ys ≡ same_bytes ys xs

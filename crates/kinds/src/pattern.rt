@@ -43,7 +43,7 @@ impl Keyed for Pattern {
     }
 
     fn equal(&self, other: &Pattern) -> bool {
-        self.bits == other.bits
+        self == other
     }
 
     fn hash(&self) -> u64 {

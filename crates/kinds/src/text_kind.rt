@@ -1,8 +1,8 @@
 // Texts made of bytes and read, and the kind that they are.
-ghost use Rattle.std.specs.Prelude.{◌≡◌, ◌+◌, ◌<◌, ◌≤◌, length, replicate, Ok, Err, refl};
+ghost use Rattle.std.specs.Prelude.{◌≡◌, ◌≤◌, ◌↔◌, length, replicate, IsOk, IfOk, IsOkUnless, refl};
 ghost use Rattle.std.proofs.Common.{◌∙◌, ap, lit≤};
 ghost use Rattle.refusals.specs.declared.Refusal.TheVariants.{TextTooLong};
-ghost use Rattle.kinds.specs.Hashes.{mixed_bytes, word_at};
+ghost use Rattle.kinds.specs.Hashes.{mixed_bytes};
 ghost use Rattle.kinds.specs.TextBytes.{text_of};
 ghost use Rattle.kinds.specs.Texts.{order_bytes, same_bytes};
 ghost use Rattle.kinds.specs.TextsLemmas.{same_decides, same_swap, order_same, order_zero, order_swap, order_chain};
@@ -18,15 +18,15 @@ pub const MAX_TEXT: usize = 16;
 
 impl Text {
     pub fn new(bytes: &[u8]) -> Result<Text, Refusal>
-        ensures { elim result [ Ok t ↦ (length bytes.now ≤ 16) × (text_of t ≡ bytes.now) | Err e ↦ (16 < length bytes.now) × (e ≡ TextTooLong) ] }
+        ensures fits { IsOk result ↔ (length bytes.now ≤ 16) }
+        ensures holds { IfOk result (λ t. text_of t ≡ bytes.now) }
+        ensures refusal { IsOkUnless result TextTooLong }
     {
         if bytes.len() > MAX_TEXT {
             return Err(Refusal::TextTooLong);
         }
         let mut padded = [0; 16];
-        for (i, byte) in bytes.iter().enumerate() {
-            padded[i] = *byte;
-        }
+        padded[..bytes.len()].copy_from_slice(bytes);
         Ok(Text {
             bytes: padded,
             len: bytes.len(),
@@ -38,23 +38,6 @@ impl Text {
     {
         &self.bytes[..self.len]
     }
-}
-
-// The eight bytes from place p on as a number, lowest first.
-fn word(bytes: &[u8; 16], p: usize) -> u64
-    requires { p + 8 ≤ 16 }
-    ensures { result ≡ word_at bytes.now p }
-{
-    u64::from_le_bytes([
-        bytes[p],
-        bytes[p + 1],
-        bytes[p + 2],
-        bytes[p + 3],
-        bytes[p + 4],
-        bytes[p + 5],
-        bytes[p + 6],
-        bytes[p + 7],
-    ])
 }
 
 impl Keyed for Text {
@@ -80,12 +63,13 @@ impl Keyed for Text {
     }
 
     fn equal(&self, other: &Text) -> bool {
-        self.len == other.len && self.bytes == other.bytes
+        self == other
     }
 
     fn hash(&self) -> u64 {
-        let low = word(&self.bytes, 0);
-        let high = word(&self.bytes, 8);
+        let (words, _) = self.bytes.as_slice().as_chunks::<8>();
+        let low = u64::from_le_bytes(words[0]);
+        let high = u64::from_le_bytes(words[1]);
         mix(low ^ mix(high ^ self.len as u64))
     }
 }
@@ -102,6 +86,6 @@ impl Ordered for Text {
     ghost chain = { λ a b c h k. order_chain (text_of a) (text_of b) (text_of c) h k };
 
     fn compare(&self, other: &Text) -> Ordering {
-        self.as_bytes().cmp(&other.as_bytes())
+        self.as_bytes().cmp(other.as_bytes())
     }
 }
