@@ -1,6 +1,5 @@
 // Kinds of cue: the order of float patterns, texts of every sort, and a kind whose equality is coarse.
 use coarse::Coarse;
-use columns::Cell;
 use kinds::{Keyed, Ordered, Pattern, Text, Whole};
 use refusals::Refusal;
 use std::cmp::Ordering;
@@ -96,11 +95,11 @@ fn texts_have_at_most_sixteen_bytes(rt: HostRuntime) -> Result<(), Fail> {
 
 #[test]
 fn cells_are_equal_as_their_cues_are(rt: HostRuntime) {
-    let one = Cell::Cue(Coarse { value: 6 });
-    let two = Cell::Cue(Coarse { value: 7 });
-    let three = Cell::Cue(Coarse { value: 8 });
-    let zero = Cell::Cue(Coarse::blank());
-    let null: Cell<Coarse> = Cell::blank();
+    let one = Some(Coarse { value: 6 });
+    let two = Some(Coarse { value: 7 });
+    let three = Some(Coarse { value: 8 });
+    let zero = Some(Coarse::blank());
+    let null: Option<Coarse> = Option::blank();
     assert!(rt; one.equal(&two) && one.hash() == two.hash());
     assert!(rt; !one.equal(&three));
     assert!(rt; !null.equal(&zero) && !zero.equal(&null));

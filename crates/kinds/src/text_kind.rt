@@ -1,11 +1,11 @@
 // Texts made of bytes and read, and the kind that they are.
 ghost use Rattle.std.specs.Prelude.{◌≡◌, ◌≤◌, ◌↔◌, length, replicate, IsOk, IfOk, IsOkUnless, refl};
-ghost use Rattle.std.proofs.Common.{◌∙◌, ap, lit≤};
+ghost use Rattle.std.proofs.Common.{ap, lit≤};
 ghost use Rattle.refusals.specs.declared.Refusal.TheVariants.{TextTooLong};
 ghost use Rattle.kinds.specs.Hashes.{mixed_bytes};
 ghost use Rattle.kinds.specs.TextBytes.{text_of};
 ghost use Rattle.kinds.specs.Texts.{order_bytes, same_bytes};
-ghost use Rattle.kinds.specs.TextsLemmas.{same_decides, same_swap, order_same, order_zero, order_swap, order_chain};
+ghost use Rattle.kinds.specs.TextsLemmas.{same_decides, same_self, same_swap, same_chain, order_same, order_zero, order_swap, order_chain};
 
 use crate::hash::mix;
 use crate::text::Text;
@@ -47,11 +47,11 @@ impl Keyed for Text {
 
     ghost hashed = { λ a. mixed_bytes (text_of a) };
 
-    ghost reflexive = { λ a. (same_decides (text_of a) (text_of a)).1 refl };
+    ghost reflexive = { λ a. same_self (text_of a) };
 
     ghost symmetric = { λ a b. same_swap (text_of a) (text_of b) };
 
-    ghost transitive = { λ a b c h k. (same_decides (text_of a) (text_of c)).1 ((same_decides (text_of a) (text_of b)).0 h ∙ (same_decides (text_of b) (text_of c)).0 k) };
+    ghost transitive = { λ a b c h k. same_chain (text_of a) (text_of b) (text_of c) h k };
 
     ghost hash_agrees = { λ a b h. ap mixed_bytes ((same_decides (text_of a) (text_of b)).0 h) };
 
@@ -67,7 +67,7 @@ impl Keyed for Text {
     }
 
     fn hash(&self) -> u64 {
-        let (words, _) = self.bytes.as_slice().as_chunks::<8>();
+        let (words, _) = self.bytes.as_chunks::<8>();
         let low = u64::from_le_bytes(words[0]);
         let high = u64::from_le_bytes(words[1]);
         mix(low ^ mix(high ^ self.len as u64))
@@ -85,6 +85,7 @@ impl Ordered for Text {
 
     ghost chain = { λ a b c h k. order_chain (text_of a) (text_of b) (text_of c) h k };
 
+    #[tactic(auto, using(crate::specs::TextsLemmas::order_from_lex))]
     fn compare(&self, other: &Text) -> Ordering {
         self.as_bytes().cmp(other.as_bytes())
     }
