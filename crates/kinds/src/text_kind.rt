@@ -62,6 +62,7 @@ impl Keyed for Text {
         }
     }
 
+    #[tactic(auto, using(crate::proofs::Padded::same_padded))]
     fn equal(&self, other: &Text) -> bool {
         self == other
     }
