@@ -20,11 +20,12 @@ same_swap xs ys = same_from_decides _ _ (same_decides xs ys) (Decides-like (same
 pub same_chain : (xs ys zs : List ℕ) → same_bytes xs ys ≡ true → same_bytes ys zs ≡ true → same_bytes xs zs ≡ true
 same_chain xs ys zs h k = (same_decides xs zs).1 ((same_decides xs ys).0 h ∙ (same_decides ys zs).0 k)
 
+order_self : (xs : List ℕ) → sign (order_bytes xs xs) ≡ pos 0
+order_self [] = refl
+order_self (x ∷ xs) = let t = order_self xs in grind (arith, nat_tests)
+
 pub order_zero : (xs ys : List ℕ) → same_bytes xs ys ≡ true → sign (order_bytes xs ys) ≡ pos 0
-order_zero [] [] h = refl
-order_zero [] (y ∷ ys) h = grind arith
-order_zero (x ∷ xs) [] h = grind arith
-order_zero (x ∷ xs) (y ∷ ys) h = let t = order_zero xs ys in grind (arith, nat_tests)
+order_zero xs ys h = rw (← (same_decides xs ys).0 h) (order_self xs)
 
 pub order_same : (xs ys : List ℕ) → sign (order_bytes xs ys) ≡ pos 0 → same_bytes xs ys ≡ true
 order_same [] [] h = refl
