@@ -5,6 +5,7 @@ ghost use Rattle.std.specs.Prelude.{◌≡◌, Some};
 ghost use Rattle.refusals.specs.Numbers.{number_of};
 ghost use Rattle.refusals.specs.Sentences.{line_of, sentence_of};
 
+use std::error::Error;
 use std::fmt;
 
 // In the order in which checks run: where several are due, the first is given.
@@ -80,3 +81,5 @@ impl fmt::Display for Refusal {
         write!(f, "refused {number}: {sentence}")
     }
 }
+
+impl Error for Refusal {}
