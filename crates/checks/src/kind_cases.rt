@@ -3,6 +3,7 @@ use coarse::Coarse;
 use kinds::{Keyed, Ordered, Pattern, Text, Whole};
 use refusals::Refusal;
 use std::cmp::Ordering;
+use std::process::Abort;
 use std::test::Fail;
 
 // Patterns in the order that IEEE 754 gives them.
@@ -30,49 +31,32 @@ const SIGNED: [i64; 5] = [i64::MIN, -1, 0, 1, i64::MAX];
 // Texts in byte order: some that begin alike, zero bytes inside and at the end, bytes above 127.
 const WORDS: [&[u8]; 8] = [b"", b"\0", b"\0a", b"a", b"a\0", b"aa", b"b", b"\xff"];
 
-// What two places of a row in order are to each other.
-fn by_place(i: usize, j: usize) -> Ordering {
-    i.cmp(&j)
+// Each cue comes before those that are listed after it, and equals and hashes as itself alone.
+fn stand_in_order<K: Ordered>(rt: &impl Abort, cues: &[K]) {
+    for (i, one) in cues.iter().enumerate() {
+        for (j, two) in cues.iter().enumerate() {
+            assert_eq!(rt; one.compare(two), i.cmp(&j));
+            assert_eq!(rt; one.equal(two), i == j);
+            assert_eq!(rt; one.hash() == two.hash(), i == j);
+        }
+    }
 }
 
 #[test]
 fn patterns_stand_in_total_order(rt: HostRuntime) {
-    for (i, a) in IN_ORDER.iter().enumerate() {
-        for (j, b) in IN_ORDER.iter().enumerate() {
-            let one = Pattern { bits: *a };
-            let two = Pattern { bits: *b };
-            assert_eq!(rt; one.compare(&two), by_place(i, j));
-            assert_eq!(rt; one.equal(&two), i == j);
-        }
-    }
+    stand_in_order(&rt, &IN_ORDER.map(|bits| Pattern { bits }));
     assert_eq!(rt; Pattern::blank().bits, 0);
 }
 
 #[test]
 fn whole_cues_stand_in_numeric_order(rt: HostRuntime) {
-    for (i, a) in SIGNED.iter().enumerate() {
-        for (j, b) in SIGNED.iter().enumerate() {
-            let one = Whole { value: *a };
-            let two = Whole { value: *b };
-            assert_eq!(rt; one.compare(&two), by_place(i, j));
-            assert_eq!(rt; one.equal(&two), i == j);
-            assert_eq!(rt; one.hash() == two.hash(), i == j);
-        }
-    }
+    stand_in_order(&rt, &SIGNED.map(|value| Whole { value }));
     assert_eq!(rt; Whole::blank().value, 0);
 }
 
 #[test]
 fn texts_stand_in_byte_order(rt: HostRuntime) -> Result<(), Fail> {
-    for (i, a) in WORDS.iter().enumerate() {
-        for (j, b) in WORDS.iter().enumerate() {
-            let one = Text::new(*a)?;
-            let two = Text::new(*b)?;
-            assert_eq!(rt; one.compare(&two), by_place(i, j));
-            assert_eq!(rt; one.equal(&two), i == j);
-            assert_eq!(rt; one.hash() == two.hash(), i == j);
-        }
-    }
+    stand_in_order(&rt, &WORDS.try_map(Text::new)?);
     assert!(rt; Text::blank().as_bytes().is_empty());
     Ok(())
 }

@@ -38,8 +38,8 @@ fn same_rest(rt: &impl Abort, out: &[u8], rows: usize)
     for i in rows..8 * ((rows + 7) / 8) {
         assert!(rt; i / 8 < out.len() && out[i / 8] >> (i % 8) & 1 == 0);
     }
-    for k in (rows + 7) / 8..out.len() {
-        assert_eq!(rt; out[k], 0xee);
+    for byte in out.iter().skip((rows + 7) / 8) {
+        assert_eq!(rt; *byte, 0xee);
     }
 }
 
@@ -84,8 +84,8 @@ fn maps_are_united_at_every_length(rt: HostRuntime) -> Result<(), Fail> {
         assert_eq!(rt; a.unite(&b, &mut out), Ok((n + 7) / 8));
         same_rest(&rt, &out, n);
         let read = Validity::new(&out, n)?;
-        for i in 0..n {
-            assert_eq!(rt; read.is_valid(i), Ok(ONE[i] && TWO[i]));
+        for (i, (one, two)) in ONE[..n].iter().zip(&TWO).enumerate() {
+            assert_eq!(rt; read.is_valid(i), Ok(*one && *two));
         }
     }
     Ok(())
