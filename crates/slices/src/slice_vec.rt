@@ -26,7 +26,7 @@ impl<'a, T> SliceVec<'a, T> {
     pub fn len(&self) -> usize
         ensures { result ≡ slice_vec_len self.now }
     {
-        self.as_slice().len()
+        self.len
     }
 
     pub fn capacity(&self) -> usize
