@@ -12,6 +12,7 @@ ghost use Rattle.multiset.specs.Moves.{Adds, Lowers};
 
 use columns::Part;
 use kinds::Keyed;
+use refusals::Refusal;
 
 // Every promise speaks of states that are in order and is silent of others, in which the calls are safe all the same.
 pub trait Multiset<K: Keyed> {
@@ -40,16 +41,16 @@ pub trait Multiset<K: Keyed> {
     fn cell(&self, i: usize) -> Option<K>
         ensures { result ≡ slice_index_or (cells_of (entries self.now)) i None };
 
-    // Puts in one more of a cell, unless it is a new one and there is no place for it.
-    fn add(&mut self, cell: Option<K>) -> bool
+    // Puts in one more of a cell; refused where it is a new one and there is no place for it.
+    fn add(&mut self, cell: Option<K>) -> Result<(), Refusal>
         ensures { whole self.old → Live (entries self.old) → total (entries self.old) < 2 ^ 31 → Adds K.Keyed.same whole entries places adding cell self.old self.new result };
 
     // Undoes the adding of a cell, if nothing else was done since.
     fn undo_add(&mut self, cell: Option<K>)
         ensures { (s : Self) → whole s → Live (entries s) → adding s cell self.old → self.new ≡ s };
 
-    // Takes one of a cell off, if it is there; its entry stays.
-    fn lower(&mut self, cell: Option<K>) -> bool
+    // Takes one of a cell off, whose entry stays; refused where it is not there.
+    fn lower(&mut self, cell: Option<K>) -> Result<(), Refusal>
         ensures { whole self.old → Lowers K.Keyed.same whole entries places lowering cell self.old self.new result };
 
     // Undoes the lowering of a cell, if nothing else was done since.

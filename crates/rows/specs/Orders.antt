@@ -1,5 +1,5 @@
 -- The order of cells: by their cues' order, rising or falling, with nulls before or behind all cues.
-use Rattle.std.specs.Prelude.{◌≡◌, Bool, true, cond, not, pos, neg_ℤ, ◌≤ℤ◌, Option, Some, None}
+use Rattle.std.specs.Prelude.{◌≡◌, Bool, true, if◌then◌else◌, pos, neg_ℤ, ◌≤ℤ◌, Option, Some, None}
 use Rattle.std.specs.declared.cmp.Ordering.TheVariants.{Less, Equal, Greater}
 use Rattle.std.specs.declared.cmp.Ordering.{Ordering}
 use Rattle.std.specs.Ordering.{ordering_reverse}
@@ -9,9 +9,9 @@ use Rattle.rows.specs.declared.order.SortOptions.{SortOptions}
 
 abbrev pub order_cells : {K : Type 0} → (K → K → Ordering) → SortOptions → Option K → Option K → Ordering
 order_cells order options None None = Equal
-order_cells order options None (Some b) = cond options.nulls_first Less Greater
-order_cells order options (Some a) None = cond (not options.nulls_first) Less Greater
-order_cells order options (Some a) (Some b) = cond options.descending (ordering_reverse (order a b)) (order a b)
+order_cells order options None (Some b) = if options.nulls_first then Less else Greater
+order_cells order options (Some a) None = if options.nulls_first then Greater else Less
+order_cells order options (Some a) (Some b) = if options.descending then ordering_reverse (order a b) else order a b
 
 -- the laws of an ordered kind, of cells: whatever the options, cells compare as their equality and one another's places ask
 pub record LawfulCells {K : Type 0} (order : K → K → Ordering) (same : K → K → Bool) (options : SortOptions) : Type 0 where
