@@ -29,6 +29,13 @@ impl<'a, T> SliceDeque<'a, T> {
         SliceDeque { slots, start, len }
     }
 
+    // The place of the first value, for whoever keeps the slice, the place and the number, and makes the ring again of them.
+    pub fn start(&self) -> usize
+        ensures { result ≡ slice_deque_start self.now }
+    {
+        self.start
+    }
+
     pub fn len(&self) -> usize
         ensures { result ≡ slice_deque_len self.now }
     {

@@ -113,6 +113,7 @@ impl<'a, T: Copy> SliceVec<'a, T> {
         ensures len { slice_vec_len self.new ≤ slice_vec_len self.old }
         ensures spare { spare_places self.new ≡ drop (slice_vec_len self.new) (places self.old) }
     {
+        // One slice is read at one place and written at another, which no iterator over it does.
         let slots = &mut *self.slots;
         let mut kept = 0;
         for i in 0..self.len {
