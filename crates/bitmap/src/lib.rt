@@ -3,9 +3,10 @@
 
 mod validity;
 
-ghost use Rattle.std.specs.Prelude.{◌≡◌, ℕ, ◌+◌, ◌-◌, ◌^◌, ◌<◌, ◌≤◌, length, sum_by, count_ones, is_ok, MatchBool, IfOk};
+ghost use Rattle.std.specs.Prelude.{◌≡◌, ℕ, ◌+◌, ◌*◌, ◌/◌, ◌%◌, ◌^◌, ◌<◌, ◌≤◌, length, slice_index, sum_by, count_ones, is_ok, MatchBool, IfOk};
 ghost use Rattle.refusals.specs.Checks.{outcome_of, unless};
 ghost use Rattle.bitmap.specs.Bits.{bytes_for, packed, valid_at};
+ghost use Rattle.bitmap.specs.Counts.{valid_in};
 ghost use Rattle.bitmap.specs.Maps.{MapWritten, both_valid, flag_at, map_checks, null_count, row_checks, row_count, row_valid, unite_checks, write_checks};
 
 use refusals::Refusal;
@@ -53,17 +54,20 @@ impl<'a> Validity<'a> {
         Ok(get_bit(self.bytes, 0, i))
     }
 
-    // How many rows are null: all but the ones in the whole bytes, and in the tail under a mask.
+    // How many rows are null.
     pub fn null_count(&self) -> usize
         ensures { result ≡ null_count self.now }
     {
         let whole = self.rows / 8;
-        let mask = low_bits(self.rows % 8);
-        let tail = self
-            .bytes
-            .get(whole)
-            .map_or(0, |byte| (byte & mask).count_ones() as usize);
-        self.rows - (ones(&self.bytes[..whole]) + tail)
+        self.rows - (ones(&self.bytes[..whole]) + self.tail().count_ones() as usize)
+    }
+
+    // The byte past the whole ones, with the bits of rows alone; none are set where there is no such byte.
+    fn tail(&self) -> u8
+        ensures { result ≡ slice_index self.now.bytes.now (self.now.rows / 8) % 2 ^ (self.now.rows % 8) }
+    {
+        let mask: u8 = (1 << (self.rows % 8)) - 1;
+        self.bytes.get(self.rows / 8).map_or(0, |byte| byte & mask)
     }
 
     // Writes the map of the rows that both maps call valid, and answers its bytes.
@@ -92,9 +96,8 @@ impl<'a> Validity<'a> {
         for (k, byte) in out[..whole].iter_mut().enumerate() {
             *byte = self.bytes[k] & other.bytes[k];
         }
-        let rest = self.rows % 8;
-        if rest > 0 {
-            out[whole] = self.bytes[whole] & other.bytes[whole] & low_bits(rest);
+        if self.rows % 8 > 0 {
+            out[whole] = self.tail() & other.tail();
         }
     }
 }
@@ -104,14 +107,6 @@ fn bytes_for(rows: usize) -> usize
     ensures { result ≡ bytes_for rows }
 {
     rows.div_ceil(8)
-}
-
-// The byte with so many ones, in its lowest bits.
-fn low_bits(n: usize) -> u8
-    requires { n < 8 }
-    ensures { result ≡ 2 ^ n - 1 }
-{
-    (1 << n) - 1
 }
 
 // Whether bit start + i of the bytes is set, lowest bit of the first byte first; no bit past their end is.
@@ -125,10 +120,10 @@ pub fn get_bit(bytes: &[u8], start: usize, i: usize) -> bool
         .is_some_and(|byte| (byte >> (low % 8)) & 1 == 1)
 }
 
-// How many bits are set. Most bytes are taken eight at a time, which is eight times faster than one by one.
+// How many rows of these bytes are valid. Most bytes are taken eight at a time, which is eight times faster than one by one.
 fn ones(bytes: &[u8]) -> usize
-    requires { sum_by count_ones bytes.now < 2 ^ 64 }
-    ensures { result ≡ sum_by count_ones bytes.now }
+    requires { length bytes.now ≤ 131072 }
+    ensures { result ≡ valid_in bytes.now (8 * length bytes.now) }
 {
     let (words, rest) = bytes.as_chunks::<8>();
     let in_words = words.iter().map(ones_in_word).sum::<usize>();
