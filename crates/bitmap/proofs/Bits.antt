@@ -1,10 +1,9 @@
 -- The bits of a byte: of a packed one, and of one under a mask.
 use Rattle.std.proofs.Common.{◌≡◌, ℕ, zero, suc, ◌+◌, ◌-◌, ◌*◌, ◌/◌, ◌%◌, ◌^◌, ◌<◌, ◌≤◌, Bool, true, false, cond, ◌&&◌, eqb, ◌⊎◌, List, length, get_or, sym, refl, ap, ◌∙◌, inl, inr, add-zero, mod-lt, pow-suc, one-add, arith, pow_mono}
-use native.Mathlib.Nat.{div-eq_of_lt, add-mul-div_right, zero-div}
+use native.Mathlib.Nat.{div-eq_of_lt, add-mul-div_right}
 use lib.Arith.{digits_div}
 use lib.Bits.{bit_and}
 use Rattle.std.proofs.lemmas.Nat.{mod-pow-add, pow_pos, pow-add, one_shl, and_mask, and_shr, and_mod}
-use Rattle.std.proofs.lemmas.List.{get_or_past}
 use Rattle.std.proofs.lemmas.Bool.{cases_eq}
 use Rattle.bitmap.specs.Bits.{packed, valid_at}
 
@@ -87,8 +86,3 @@ packed_both xs ys k (suc j) h =
     rw (d, m) in
     let b = both_bits (get_or xs k 0 / 2 ^ j % 2) (get_or ys k 0 / 2 ^ j % 2) (2 ^ j) (mod-lt _ (omega arith)) (mod-lt _ (omega arith)) in
     omega (arith, and_more (get_or xs k 0) (get_or ys k 0) j, packed_both xs ys k j (omega arith))
-
--- no row past the bytes is valid
-pub valid_past : (bytes : List ℕ) (i : ℕ) → length bytes ≤ i / 8 → valid_at bytes i ≡ false
-valid_past bytes i h =
-    ap (λ (b : ℕ). eqb (b / 2 ^ (i % 8) % 2) 1) (get_or_past bytes (i / 8) 0 h) ∙ ap (λ (q : ℕ). eqb (q % 2) 1) (zero-div (2 ^ (i % 8)))
