@@ -1,5 +1,5 @@
 -- The bits of a byte: of a packed one, and of one under a mask.
-use Rattle.std.proofs.Common.{◌≡◌, ℕ, zero, suc, ◌+◌, ◌-◌, ◌*◌, ◌/◌, ◌%◌, ◌^◌, ◌<◌, ◌≤◌, Bool, true, false, cond, ◌&&◌, eqb, ◌⊎◌, List, length, get_or, sym, refl, ap, ◌∙◌, inl, inr, add-zero, mod-lt, pow-suc, one-add, arith, pow_mono}
+use Rattle.std.proofs.Common.{◌≡◌, ℕ, zero, suc, ◌+◌, ◌-◌, ◌*◌, ◌/◌, ◌%◌, ◌^◌, ◌<◌, ◌≤◌, Bool, true, false, cond, ◌&&◌, eqb, ◌⊎◌, List, get_or, sym, refl, ap, ◌∙◌, inl, inr, add-zero, mod-lt, pow-suc, one-add, arith, pow_mono}
 use native.Mathlib.Nat.{div-eq_of_lt, add-mul-div_right}
 use lib.Arith.{digits_div}
 use lib.Bits.{bit_and}

@@ -1,5 +1,5 @@
 -- The flags before j fill the bits below j, so that the bit of flag j is free, and a byte has room for it.
-use Rattle.std.proofs.Common.{◌≡◌, ◌+◌, ◌*◌, ◌^◌, ◌<◌, ◌≤◌, ap, pow-suc, add-one, arith, pow_mono, rules}
+use Rattle.std.proofs.Common.{◌≡◌, ◌+◌, ◌*◌, ◌^◌, ◌<◌, ◌≤◌, pow-suc, add-one, arith, pow_mono, rules}
 use Rattle.std.proofs.lemmas.Nat.{one_shl}
 use Rattle.bitmap.specs.Maps.{flag_at}
 use Rattle.bitmap.proofs.Bits.{packed_lt}

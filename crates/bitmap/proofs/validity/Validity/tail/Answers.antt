@@ -1,4 +1,4 @@
-use Rattle.std.proofs.Common.{arith, rules}
+use Rattle.std.proofs.Common.{arith}
 use Rattle.std.proofs.lemmas.Grind.{common_steps}
 use Rattle.bitmap.proofs.Bits.{masked}
 use Rattle.bitmap.proofs.validity.Validity.tail.Goals as goal

@@ -7,7 +7,7 @@ use Rattle.bitmap.specs.declared.validity.Validity.{Validity}
 use Rattle.bitmap.specs.Bits.{packed}
 use Rattle.bitmap.specs.Maps.{both_valid}
 use Rattle.bitmap.proofs.Bits.{packed_both}
-use Rattle.bitmap.proofs.Filled.{byte_of, filled, filled_more, filled_front, filled_all}
+use Rattle.bitmap.proofs.Filled.{byte_of, filled_more, filled_front, filled_all}
 use Rattle.bitmap.proofs.validity.Validity.write_both.Goals as goal
 
 -- byte k, of which n bits are rows

@@ -1,4 +1,4 @@
-use Rattle.std.proofs.Common.{◌≡◌, take}
+use Rattle.std.proofs.Common.{◌≡◌}
 use Rattle.bitmap.specs.Maps.{both_valid}
 use Rattle.bitmap.proofs.Filled.{filled}
 use Rattle.bitmap.proofs.validity.Validity.write_both.Given as goal
