@@ -58,16 +58,17 @@ impl<'a> Validity<'a> {
     pub fn null_count(&self) -> usize
         ensures { result ≡ null_count self.now }
     {
-        let whole = self.rows / 8;
-        self.rows - (ones(&self.bytes[..whole]) + self.tail().count_ones() as usize)
+        let rows = self.rows;
+        let valid = ones(&self.bytes[..rows / 8]) + self.tail().count_ones() as usize;
+        rows - valid
     }
 
-    // The byte past the whole ones, with the bits of rows alone; none are set where there is no such byte.
+    // The byte past those that are all rows, or zero, with the bits of rows alone.
     fn tail(&self) -> u8
         ensures { result ≡ slice_index self.now.bytes.now (self.now.rows / 8) % 2 ^ (self.now.rows % 8) }
     {
-        let mask: u8 = (1 << (self.rows % 8)) - 1;
-        self.bytes.get(self.rows / 8).map_or(0, |byte| byte & mask)
+        let last = self.bytes.get(self.rows / 8).copied().unwrap_or(0);
+        last & ((1 << (self.rows % 8)) - 1)
     }
 
     // Writes the map of the rows that both maps call valid, and answers its bytes.
@@ -82,23 +83,14 @@ impl<'a> Validity<'a> {
         if size > out.len() {
             return Err(Refusal::OutputTooShort);
         }
-        self.write_both(other, out);
-        Ok(size)
-    }
-
-    // Writes the map of the rows that both maps call valid: whole bytes, then the tail under a mask.
-    fn write_both(&self, other: &Validity, out: &mut [u8])
-        requires same { row_count other.now ≡ row_count self.now }
-        requires room { bytes_for (row_count self.now) ≤ length out.old }
-        ensures { MapWritten (both_valid self.now other.now) (row_count self.now) out.old out.new }
-    {
         let whole = self.rows / 8;
         for (k, byte) in out[..whole].iter_mut().enumerate() {
             *byte = self.bytes[k] & other.bytes[k];
         }
-        if self.rows % 8 > 0 {
+        if whole < size {
             out[whole] = self.tail() & other.tail();
         }
+        Ok(size)
     }
 }
 
@@ -122,7 +114,7 @@ pub fn get_bit(bytes: &[u8], start: usize, i: usize) -> bool
 
 // How many rows of these bytes are valid. Most bytes are taken eight at a time, which is eight times faster than one by one.
 fn ones(bytes: &[u8]) -> usize
-    requires { length bytes.now ≤ 131072 }
+    requires { 8 * length bytes.now ≤ usize.MAX }
     ensures { result ≡ valid_in bytes.now (8 * length bytes.now) }
 {
     let (words, rest) = bytes.as_chunks::<8>();
@@ -134,6 +126,7 @@ fn ones(bytes: &[u8]) -> usize
     in_words + in_rest
 }
 
+// The same of eight bytes, read as one number.
 fn ones_in_word(word: &[u8; 8]) -> usize
     ensures value { result ≡ sum_by count_ones word.now }
     ensures most { result ≤ 64 }
