@@ -5,14 +5,9 @@ use Rattle.std.specs.Iterator.Adapters.{enumerate_count, enumerate_source}
 use Rattle.std.specs.Slice.Iter.{chunks_rest}
 use Rattle.bitmap.specs.Bits.{bytes_for, packed}
 use Rattle.bitmap.specs.Maps.{flag_at}
+use Rattle.bitmap.proofs.Bits.{packed_same}
 use Rattle.bitmap.proofs.Filled.{byte_of, filled, filled_more, filled_all}
 use Rattle.bitmap.proofs.write_map.Goals as goal
-
--- the same bits make the same number
-packed_same : (f g : ℕ → Bool) (a b n : ℕ) → ((j : ℕ) → j < n → f (a + j) ≡ g (b + j)) → packed f a n ≡ packed g b n
-packed_same f g a b zero h = refl
-packed_same f g a b (suc n) h =
-    omega (arith, packed_same f g a b n (λ j l. h j (omega arith)), ap (λ (x : Bool). cond {A = ℕ} x (2 ^ n) 0) (h n (omega arith)))
 
 module _ (flags eight left rest : List Bool) (n : ℕ) (here : left ≡ drop (8 * n) flags) (cut : left ≡ eight ++ rest) (long : length eight ≡ min 8 (length left)) where
   rest_is : rest ≡ drop (8 * n + 8) flags
