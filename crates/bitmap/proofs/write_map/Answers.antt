@@ -1,5 +1,5 @@
 -- Each chunk of eight flags, or what is left of them, is the next byte of the map.
-use Rattle.std.proofs.Common.{◌≡◌, ℕ, zero, suc, ◌+◌, ◌*◌, ◌^◌, ◌<◌, min, Bool, false, cond, List, ◌++◌, length, get_or, drop, set, sym, refl, ap, ◌∙◌, zero-add, arith}
+use Rattle.std.proofs.Common.{◌≡◌, ℕ, ◌+◌, ◌*◌, ◌<◌, min, Bool, false, List, ◌++◌, length, get_or, drop, set, sym, ap, ◌∙◌, zero-add, arith}
 use Rattle.std.proofs.lemmas.List.{drop-drop, drop_at, drop_min, get_or_append_left, get_or-drop, length-drop}
 use Rattle.std.specs.Iterator.Adapters.{enumerate_count, enumerate_source}
 use Rattle.std.specs.Slice.Iter.{chunks_rest}
@@ -27,7 +27,7 @@ loop-k-preserved c =
     let n = enumerate_count c.loop-k.k-iterator in
     let kept = c.loop-k.invariant in
     let step = c.in-Some.ensures.steps in
-    let long : length c.in-Some.eight.now ≡ min 8 (length (chunks_rest (enumerate_source c.loop-k.k-iterator))) = step.0.1.1 ∙ ap (λ (x : ℕ). min x (length (chunks_rest (enumerate_source c.loop-k.k-iterator)))) kept.eight in
+    let long : length c.in-Some.eight.now ≡ min 8 (length (chunks_rest (enumerate_source c.loop-k.k-iterator))) = omega arith in
     let inside : n < bytes_for (length flags) = omega (arith, ap length kept.left, length-drop (8 * n) flags) in
     let next : 8 * n + 8 ≡ 8 * enumerate_count c.next.new.self = omega arith in
     record {
