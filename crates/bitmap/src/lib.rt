@@ -84,6 +84,7 @@ impl<'a> Validity<'a> {
             return Err(Refusal::OutputTooShort);
         }
         let whole = self.rows / 8;
+        // Both maps are read at an index: of places written through a zip nothing is proved.
         for (k, byte) in out[..whole].iter_mut().enumerate() {
             *byte = self.bytes[k] & other.bytes[k];
         }
@@ -146,6 +147,7 @@ pub fn write_map(flags: &[bool], out: &mut [u8]) -> Result<usize, Refusal>
     if size > out.len() {
         return Err(Refusal::OutputTooShort);
     }
+    // The output is written at an index: of places written through a zip nothing is proved.
     for (k, eight) in flags.chunks(8).enumerate() {
         out[k] = pack(eight);
     }
