@@ -1,9 +1,19 @@
 // One row of a sheet, and what a whole sheet comes to.
-ghost use Rattle.std.specs.Prelude.{Some};
+ghost use Rattle.std.specs.Prelude.{◌≡◌, ◌%◌, Some};
+ghost use Rattle.std.specs.Int.{w32, w64, from_le_bytes};
 ghost use Rattle.sheets.specs.Report.{report_of};
+ghost use Rattle.sheets.specs.Body.{row_from};
 
 use std::fmt;
 
+// The bits of a word.
+const MODULE_BITS: u32 = (1 << 16) - 1;
+
+const NULL_BIT: u32 = 1 << 16;
+
+const FILTERED_BIT: u32 = 1 << 17;
+
+// The flag stands beside the cue, since a null row holds one too, which an Option would lose.
 #[derive(Clone, Copy, PartialEq, Eq, Debug)]
 pub struct Row {
     // the number of its module
@@ -11,6 +21,28 @@ pub struct Row {
     pub null: bool,
     pub filtered: bool,
     pub cue: i64,
+}
+
+impl Row {
+    // The row that a word and a cue say, low byte first.
+    pub(crate) fn read(word: [u8; 4], cue: [u8; 8]) -> Row
+        ensures { result ≡ row_from (from_le_bytes w32 word) (from_le_bytes w64 cue) }
+    {
+        let word = u32::from_le_bytes(word);
+        Row {
+            group: module_of(word),
+            null: word & NULL_BIT != 0,
+            filtered: word & FILTERED_BIT != 0,
+            cue: i64::from_le_bytes(cue),
+        }
+    }
+}
+
+// The number of the module that a word names.
+pub(crate) fn module_of(word: u32) -> u32
+    ensures { result ≡ word % 65536 }
+{
+    word & MODULE_BITS
 }
 
 #[derive(Clone, Copy, PartialEq, Eq, Debug)]
