@@ -7,7 +7,7 @@ use Rattle.std.proofs.lemmas.List.{get_or-take, get_or-drop, drop-drop, get_or-m
 use Rattle.std.proofs.lemmas.List.FromFn.{fill_by_all}
 use Rattle.std.proofs.lemmas.Slice.Zip.{length-zip, get_or-zip}
 use Rattle.sheets.specs.declared.row.Row.{Row}
-use Rattle.sheets.specs.Body.{row_from, row_at, rows_from, rows_at}
+use Rattle.sheets.specs.Reading.{row_from, row_at, rows_from, rows_at}
 use Rattle.sheets.specs.Bytes.{le4, le8}
 use Rattle.sheets.specs.Layout.{word_at, words_at}
 
@@ -32,7 +32,7 @@ chunk_byte size n xs k j d within small =
 
 -- a chunk that holds the bytes from place p on is the number there
 module _ (chunk xs : List ℕ) (p : ℕ) where
-  four_at : ((j : ℕ) → j < 4 → slice_index chunk j ≡ slice_index xs (p + j)) → from_le_bytes w32 chunk ≡ le4 xs p
+  pub four_at : ((j : ℕ) → j < 4 → slice_index chunk j ≡ slice_index xs (p + j)) → from_le_bytes w32 chunk ≡ le4 xs p
   four_at same = simp (same 0 (omega arith), same 1 (omega arith), same 2 (omega arith), same 3 (omega arith), add-zero)
 
   eight_at : ((j : ℕ) → j < 8 → slice_index chunk j ≡ slice_index xs (p + j)) → from_le_bytes w64 chunk ≡ le8 xs p

@@ -1,5 +1,5 @@
-pub mod Body
 pub mod Bytes
 pub mod Layout
+pub mod Reading
 pub mod Report
 pub mod Sheets

@@ -6,7 +6,7 @@ use Rattle.refusals.specs.Checks.{Checks}
 use Rattle.sheets.specs.declared.row.Row.{Row}
 use Rattle.sheets.specs.declared.row.Summary.{Summary}
 use Rattle.sheets.specs.declared.sheet.Sheet.{Sheet}
-use Rattle.sheets.specs.Body.{rows_at, rows_from}
+use Rattle.sheets.specs.Reading.{rows_at, rows_from}
 use Rattle.sheets.specs.Layout.{rows_in, modules_in, body_in, words_at}
 
 -- the rows that a sheet's bytes hold, in their order
@@ -15,7 +15,7 @@ rows_of bytes = rows_at (rows_in bytes) (body_in bytes)
 
 -- the rows of a sheet that was read
 abbrev pub sheet_rows : Sheet → List Row
-sheet_rows s = rows_from s.rows.words.now s.rows.cues.now
+sheet_rows s = rows_from s.body.words.now s.body.cues.now
 
 abbrev pub module_count : Sheet → ℕ
 module_count s = s.modules

@@ -1,19 +1,20 @@
 // Sheets: a show's rows as bytes, read and summed up.
 #![tactic(auto)]
 
+mod body;
 mod row;
 mod rows;
 mod sheet;
 
 ghost use Rattle.std.specs.Prelude.{◌≡◌, ◌↔◌, length, IfOk, IsOk, slice_index_or};
 ghost use Rattle.refusals.specs.Checks.{outcome_of, unless};
-ghost use Rattle.sheets.specs.Body.{rows_at};
 ghost use Rattle.sheets.specs.Layout.{GoodSheet, modules_in};
+ghost use Rattle.sheets.specs.Reading.{rows_at};
 ghost use Rattle.sheets.specs.Sheets.{body_checks, module_count, no_row, row_checks, rows_of, sheet_checks, sheet_rows, summary_of};
 
+use body::Body;
 use refusals::Refusal;
 pub use row::{Row, Summary};
-use rows::Rows;
 pub use sheet::Sheet;
 
 // The most rows, and the most modules, that a sheet may state.
@@ -27,11 +28,10 @@ impl<'a> Sheet<'a> {
         ensures rows { IfOk result (λ s. sheet_rows s ≡ rows_of bytes.now) }
         ensures modules { IfOk result (λ s. module_count s ≡ modules_in bytes.now) }
     {
-        let [a, b, c, d, e, f, g, h, body @ ..] = bytes else {
-            return Err(Refusal::SheetLength);
-        };
-        let rows = u32::from_le_bytes([*a, *b, *c, *d]);
-        let modules = u32::from_le_bytes([*e, *f, *g, *h]);
+        let (rows, rest) = bytes.split_first_chunk::<4>().ok_or(Refusal::SheetLength)?;
+        let (modules, body) = rest.split_first_chunk::<4>().ok_or(Refusal::SheetLength)?;
+        let rows = u32::from_le_bytes(*rows);
+        let modules = u32::from_le_bytes(*modules);
         Sheet::from_body(rows, modules, body)
     }
 
@@ -41,20 +41,18 @@ impl<'a> Sheet<'a> {
         ensures rows { IfOk result (λ s. sheet_rows s ≡ rows_at rows body.now) }
         ensures modules { IfOk result (λ s. module_count s ≡ modules) }
     {
-        let Some(read) = Rows::new(rows, body) else {
-            return Err(Refusal::SheetLength);
-        };
+        let body = Body::new(rows, body).ok_or(Refusal::SheetLength)?;
         if rows > MAX_SIZE || modules > MAX_SIZE {
             return Err(Refusal::SheetTooLarge);
         }
-        if !read.words_known() {
+        if !body.words_known() {
             return Err(Refusal::UnknownWordBit);
         }
-        if !read.modules_known(modules) {
+        if !body.modules_known(modules) {
             return Err(Refusal::ModuleOutOfRange);
         }
         Ok(Sheet {
-            rows: read,
+            body,
             modules: modules as usize,
         })
     }
@@ -62,7 +60,7 @@ impl<'a> Sheet<'a> {
     pub fn rows(&self) -> usize
         ensures { result ≡ length (sheet_rows self.now) }
     {
-        self.rows.len()
+        self.body.len()
     }
 
     pub fn modules(&self) -> usize
@@ -74,7 +72,7 @@ impl<'a> Sheet<'a> {
     pub fn row(&self, i: usize) -> Result<Row, Refusal>
         ensures { result ≡ unless (row_checks self.now i) (slice_index_or (sheet_rows self.now) i no_row) }
     {
-        self.rows.get(i).ok_or(Refusal::IndexOutOfRange)
+        self.body.row(i).ok_or(Refusal::IndexOutOfRange)
     }
 
     // How many rows there are of each sort.
@@ -82,15 +80,16 @@ impl<'a> Sheet<'a> {
         ensures { result ≡ summary_of (module_count self.now) (sheet_rows self.now) }
     {
         Summary {
-            rows: self.rows.len(),
+            rows: self.body.len(),
             modules: self.modules,
-            accepted: self.rows.filter(|row| !row.filtered).count(),
+            accepted: self.body.rows().filter(|row| !row.filtered).count(),
             nulls: self
-                .rows
+                .body
+                .rows()
                 .filter(|row| !row.filtered)
                 .filter(|row| row.null)
                 .count(),
-            filtered: self.rows.filter(|row| row.filtered).count(),
+            filtered: self.body.rows().filter(|row| row.filtered).count(),
         }
     }
 }

@@ -1,17 +1,20 @@
 // One row of a sheet, and what a whole sheet comes to.
 ghost use Rattle.std.specs.Prelude.{◌≡◌, ◌%◌, Some};
 ghost use Rattle.std.specs.Int.{w32, w64, from_le_bytes};
+ghost use Rattle.sheets.specs.Reading.{row_from};
 ghost use Rattle.sheets.specs.Report.{report_of};
-ghost use Rattle.sheets.specs.Body.{row_from};
 
 use std::fmt;
 
-// The bits of a word.
+// Bits 0 to 15 of a word are the number of its module.
 const MODULE_BITS: u32 = (1 << 16) - 1;
 
 const NULL_BIT: u32 = 1 << 16;
 
 const FILTERED_BIT: u32 = 1 << 17;
+
+// Bits 18 to 31 mean nothing.
+pub(crate) const WORD_LIMIT: u32 = 1 << 18;
 
 // The flag stands beside the cue, since a null row holds one too, which an Option would lose.
 #[derive(Clone, Copy, PartialEq, Eq, Debug)]
