@@ -10,5 +10,11 @@ by_worth zero worth l p = grind (arith, nat_tests)
 by_worth (suc zero) worth l p = grind (arith, nat_tests)
 by_worth (suc (suc n)) worth l p = absurd (omega arith)
 
-pub bit_by_mask : (n k : ℕ) → not (eqb (bit_and n (2 ^ k)) 0) ≡ eqb (n / 2 ^ k % 2) 1
-bit_by_mask n k = rw (and_pow n k) (by_worth (bit_at n k) (2 ^ k) (bit_at-lt n k) (pow_pos k))
+by_mask : (n k : ℕ) → not (eqb (bit_and n (2 ^ k)) 0) ≡ eqb (n / 2 ^ k % 2) 1
+by_mask n k = rw (and_pow n k) (by_worth (bit_at n k) (2 ^ k) (bit_at-lt n k) (pow_pos k))
+
+pub bit_16 : (n : ℕ) → not (eqb (bit_and n 65536) 0) ≡ eqb (n / 65536 % 2) 1
+bit_16 n = by_mask n 16
+
+pub bit_17 : (n : ℕ) → not (eqb (bit_and n 131072) 0) ≡ eqb (n / 131072 % 2) 1
+bit_17 n = by_mask n 17

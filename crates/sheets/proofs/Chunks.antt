@@ -17,11 +17,10 @@ length-first_chunks size (suc n) xs = ap (λ (k : ℕ). suc k) (length-first_chu
 
 get_or-first_chunks : {X : Type 0} (size n : ℕ) (xs : List X) (i : ℕ) (d : List X) → i < n → get_or (first_chunks size n xs) i d ≡ take size (drop (size * i) xs)
 get_or-first_chunks size zero xs i d h = absurd (omega arith)
-get_or-first_chunks size (suc n) xs zero d h = ap (λ (k : ℕ). take size (drop k xs)) (let e : 0 ≡ size * 0 = omega arith in e)
+get_or-first_chunks size (suc n) xs zero d h = let front : size * 0 ≡ 0 = omega arith in rw front
 get_or-first_chunks size (suc n) xs (suc i) d h =
-    get_or-first_chunks size n (drop size xs) i d (omega arith)
-    ∙ ap (take size) (drop-drop (size * i) size xs)
-    ∙ ap (λ (k : ℕ). take size (drop k xs)) (let e : size + size * i ≡ size * suc i = omega arith in e)
+    let next : size * suc i ≡ size + size * i = omega arith in
+    rw (next, ← drop-drop (size * i) size xs) (get_or-first_chunks size n (drop size xs) i d (omega arith))
 
 -- byte j of chunk k
 chunk_byte : (size n : ℕ) (xs : List ℕ) (k j : ℕ) (d : List ℕ) → k < n → j < size → slice_index (get_or (first_chunks size n xs) k d) j ≡ slice_index xs (size * k + j)
@@ -32,7 +31,7 @@ chunk_byte size n xs k j d within small =
 
 -- a chunk that holds the bytes from place p on is the number there
 module _ (chunk xs : List ℕ) (p : ℕ) where
-  pub four_at : ((j : ℕ) → j < 4 → slice_index chunk j ≡ slice_index xs (p + j)) → from_le_bytes w32 chunk ≡ le4 xs p
+  four_at : ((j : ℕ) → j < 4 → slice_index chunk j ≡ slice_index xs (p + j)) → from_le_bytes w32 chunk ≡ le4 xs p
   four_at same = simp (same 0 (omega arith), same 1 (omega arith), same 2 (omega arith), same 3 (omega arith), add-zero)
 
   eight_at : ((j : ℕ) → j < 8 → slice_index chunk j ≡ slice_index xs (p + j)) → from_le_bytes w64 chunk ≡ le8 xs p
@@ -73,9 +72,8 @@ module _ (rows : ℕ) (body : List ℕ) where
   cue_is k d h =
       eight_at (get_or cues_in k d) body (4 * rows + 8 * k)
       (λ j small.
-      chunk_byte 8 rows (drop (4 * rows) body) k j d h small
-      ∙ get_or-drop (4 * rows) body (8 * k + j) 0
-      ∙ ap (slice_index body) (let e : 4 * rows + (8 * k + j) ≡ 4 * rows + 8 * k + j = omega arith in e))
+      let place : 4 * rows + 8 * k + j ≡ 4 * rows + (8 * k + j) = omega arith in
+      rw place (chunk_byte 8 rows (drop (4 * rows) body) k j d h small ∙ get_or-drop (4 * rows) body (8 * k + j) 0))
 
   pub words_are : map (from_le_bytes w32) words_in ≡ words_at rows body
   words_are =

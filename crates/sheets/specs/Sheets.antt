@@ -6,8 +6,8 @@ use Rattle.refusals.specs.Checks.{Checks}
 use Rattle.sheets.specs.declared.row.Row.{Row}
 use Rattle.sheets.specs.declared.row.Summary.{Summary}
 use Rattle.sheets.specs.declared.sheet.Sheet.{Sheet}
-use Rattle.sheets.specs.Reading.{rows_at, rows_from}
 use Rattle.sheets.specs.Layout.{rows_in, modules_in, body_in, words_at}
+use Rattle.sheets.specs.Reading.{rows_at, rows_from}
 
 -- the rows that a sheet's bytes hold, in their order
 abbrev pub rows_of : List ℕ → List Row

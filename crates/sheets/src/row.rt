@@ -28,6 +28,7 @@ pub struct Row {
 
 impl Row {
     // The row that a word and a cue say, low byte first.
+    #[tactic(auto, using(crate::proofs::Bits::bit_16, crate::proofs::Bits::bit_17))]
     pub(crate) fn read(word: [u8; 4], cue: [u8; 8]) -> Row
         ensures { result ≡ row_from (from_le_bytes w32 word) (from_le_bytes w64 cue) }
     {
