@@ -4,7 +4,7 @@ ghost use Rattle.sheets.specs.Reading.{rows_from};
 
 use crate::row::Row;
 
-#[derive(Clone, Drop)]
+#[derive(Drop)]
 pub(crate) struct Rows<'a> {
     pub(crate) words: &'a [[u8; 4]],
     pub(crate) cues: &'a [[u8; 8]],
