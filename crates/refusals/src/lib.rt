@@ -30,14 +30,6 @@ pub enum Refusal {
     OutputTooShort,
 }
 
-// What a making answers that may be refused: the outcome, and the value made. Where the outcome is a refusal, the value is
-// the empty one of its type.
-#[derive(Clone, Copy, Drop)]
-pub struct Checked<T> {
-    pub value: T,
-    pub outcome: Result<(), Refusal>,
-}
-
 impl Refusal {
     // The number by which other programs know it.
     pub fn number(self) -> u8
