@@ -1,4 +1,4 @@
-use Rattle.std.proofs.Common.{true, false, arith, rules}
+use Rattle.std.proofs.Common.{true, false, rules}
 use Rattle.columns.proofs.Making.{good_when}
 use Rattle.columns.proofs.Rules.{offsets_decide}
 use Rattle.columns.proofs.column.ListColumn.new.Goals as goal
