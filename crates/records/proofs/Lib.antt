@@ -1,6 +1,5 @@
 pub mod Accepting
+pub mod Appending
+pub mod Counting
 pub mod Laws
 pub mod Merging
-pub mod Reading
-pub mod Removing
-pub mod Writing
