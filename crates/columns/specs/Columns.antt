@@ -1,5 +1,5 @@
 -- What cells and list columns that were read hold, and when they are refused.
-use Rattle.std.specs.Prelude.{◌≡◌, ℕ, ◌+◌, ◌≤◌, Bool, cond, not, ◌||◌, List, [], ◌∷◌, length, ℤ, Some, None, Option, ◌==◌, nat_le, nat_lt}
+use Rattle.std.specs.Prelude.{◌≡◌, ℕ, ◌+◌, ◌≤◌, Bool, if◌then◌else◌, not, ◌||◌, List, [], ◌∷◌, length, ℤ, Some, None, Option, ◌==◌, nat_le, nat_lt}
 use Rattle.std.specs.List.{between}
 use Rattle.refusals.specs.declared.Refusal.TheVariants.{TooManyRows, CountsDiffer, MapTooShort, BadOffsets, IndexOutOfRange}
 use Rattle.refusals.specs.Checks.{Checks}
@@ -46,7 +46,7 @@ column_checks p =
 -- row i of a column with these offsets over these cells, where valid says which rows are valid: null, or the cells that it
 -- covers
 abbrev pub list_in : {K : Type 0} → (ℕ → Bool) → List ℤ → List (Option K) → ℕ → Option (List (Option K))
-list_in valid offsets cells i = cond (valid i) (Some (between (start_of offsets i) (start_of offsets (i + 1)) cells)) None
+list_in valid offsets cells i = if valid i then Some (between (start_of offsets i) (start_of offsets (i + 1)) cells) else None
 
 -- the lists that a caller passes
 abbrev pub passed_list : {K : Type 0} → ColumnParts K → ℕ → Option (List (Option K))
