@@ -1,117 +1,84 @@
--- Which value of a ring stands where, and what a push and a skip do to its values.
-use Rattle.std.proofs.Common.{◌≡◌, ℕ, ◌+◌, ◌-◌, ◌<◌, ◌≤◌, cond, ltb, ◌≢◌, List, [], ◌∷◌, ◌++◌, length, get_or, take, drop, set, sym, ap, ◌∙◌, ⊎_elim, arith}
-use Rattle.std.proofs.lemmas.List.{same_lists, get_or-take, get_or-drop, get_or_append_left, get_or-append_right, get_or-set_same, get_or-set_other, length-append, length-take, length-drop, length-set, length_push, get_or_push}
+-- A ring's slots, turned so that its values come first: what a push and a skip do to them.
+use Rattle.std.proofs.Common.{◌≡◌, ℕ, ◌+◌, ◌-◌, ◌<◌, ◌≤◌, ltb, List, [], ◌∷◌, ◌++◌, length, take, drop, set, sym, ap, ◌∙◌, ⊎_elim, arith}
+use Rattle.std.proofs.lemmas.List.{append_assoc, drop-append-le, drop-drop, drop-set-add, drop-set-lt, drop-take, length-append, length-drop, length-take-le, set-append_left, set-append_right, take-append-drop, take-append-le, take-set-le, take-take, take_more_set}
 use Rattle.std.proofs.lemmas.Bool.{cases_lt, cond-true, cond-false, lt-ltb, le-ltb}
+use Rattle.std.proofs.Math.Seq.{drop-append-add, take-set-lt}
 use Rattle.slices.specs.Rings.{live, place_at}
 
-pub place_near : (slots start k : ℕ) → start + k < slots → place_at slots start k ≡ start + k
+place_near : (slots start k : ℕ) → start + k < slots → place_at slots start k ≡ start + k
 place_near slots start k h = cond-true (ltb (start + k) slots) _ _ (lt-ltb (start + k) slots h)
 
-pub place_far : (slots start k : ℕ) → slots ≤ start + k → place_at slots start k ≡ start + k - slots
+place_far : (slots start k : ℕ) → slots ≤ start + k → place_at slots start k ≡ start + k - slots
 place_far slots start k h = cond-false (ltb (start + k) slots) _ _ (le-ltb (start + k) slots h)
 
-module _ {X : Type 0} (slots : List X) (start : ℕ) (within : start ≤ length slots) where
-  length_live : (n : ℕ) → n ≤ length slots → length (live start n slots) ≡ n
-  length_live n h =
-      let t = length-take n (drop start slots ++ take start slots) in
-      let a = length-append (drop start slots) (take start slots) in
-      let b = length-drop start slots in
-      let c = length-take start slots in
-      omega arith
+abbrev turned : {X : Type 0} → ℕ → List X → List X
+turned start slots = drop start slots ++ take start slots
 
-  get_or_live : (n k : ℕ) (d : X) → n ≤ length slots → k < n → get_or (live start n slots) k d ≡ get_or slots (place_at (length slots) start k) d
-  get_or_live n k d h l =
-      ⊎_elim
-      (λ near.
-      get_or-take n (drop start slots ++ take start slots) k d l
-      ∙ get_or_append_left (drop start slots) (take start slots) d k (let b = length-drop start slots in omega arith)
-      ∙ get_or-drop start slots k d ∙ ap (λ (p : ℕ). get_or slots p d) (sym (place_near (length slots) start k near)))
-      (λ far.
-      let e : k - (length slots - start) ≡ start + k - length slots = omega arith in
-      get_or-take n (drop start slots ++ take start slots) k d l
-      ∙ get_or-append_right (drop start slots) (take start slots) (length slots - start) k d (length-drop start slots) (omega arith)
-      ∙ get_or-take start slots (k - (length slots - start)) d (omega arith)
-      ∙ ap (λ (p : ℕ). get_or slots p d) (e ∙ sym (place_far (length slots) start k far)))
-      (cases_lt (start + k) (length slots))
+module _ {X : Type 0} (slots : List X) (start n : ℕ) (within : start ≤ length slots) where
+  upper : length (drop start slots) ≡ length slots - start
+  upper = length-drop start slots
 
-  place_le : (k : ℕ) → k ≤ length slots → place_at (length slots) start k ≤ length slots
-  place_le k h =
-      ⊎_elim (λ near. let e = place_near (length slots) start k near in omega arith) (λ far. let e = place_far (length slots) start k far in omega arith) (cases_lt (start + k) (length slots))
+  length_turned : length (turned start slots) ≡ length slots
+  length_turned = omega (arith, length-append (drop start slots) (take start slots), upper, length-take-le start slots within)
 
-  place_lt : (k : ℕ) → k < length slots → place_at (length slots) start k < length slots
-  place_lt k h =
-      ⊎_elim (λ near. let e = place_near (length slots) start k near in omega arith) (λ far. let e = place_far (length slots) start k far in omega arith) (cases_lt (start + k) (length slots))
+  -- a value is written behind the first n
+  module _ (room : n < length slots) (x : X) where
+    turned_near : start + n < length slots → turned start (set slots (start + n) x) ≡ set (turned start slots) n x
+    turned_near near =
+        ap (λ l. l ++ take start (set slots (start + n) x)) (drop-set-add start slots n x)
+        ∙ ap (λ l. set (drop start slots) n x ++ l) (take-set-le start slots (start + n) x (omega arith))
+        ∙ sym (set-append_left (drop start slots) (take start slots) n x (omega (arith, upper)))
 
-  -- places of different values differ
-  place_apart : (j k : ℕ) → j < k → k < length slots → place_at (length slots) start j ≢ place_at (length slots) start k
-  place_apart j k h l same = ⊎_elim low high (cases_lt (start + j) (length slots))
-    where
-      low : start + j < length slots → ⊥
-      low a =
-          let p = place_near (length slots) start j a in
-          ⊎_elim (λ b. let q = place_near (length slots) start k b in omega arith) (λ b. let q = place_far (length slots) start k b in omega arith) (cases_lt (start + k) (length slots))
+    turned_far : length slots ≤ start + n → turned start (set slots (start + n - length slots) x) ≡ set (turned start slots) n x
+    turned_far far =
+        let e : start + n - length slots ≡ n - (length slots - start) = omega arith in
+        ap (λ l. l ++ take start (set slots (start + n - length slots) x)) (drop-set-lt start slots (start + n - length slots) x (omega arith))
+        ∙ ap (λ l. drop start slots ++ l) (take-set-lt start slots (start + n - length slots) x (omega arith) ∙ ap (λ k. set (take start slots) k x) e)
+        ∙ sym (set-append_right (drop start slots) (take start slots) (length slots - start) n x upper (omega arith))
 
-      high : length slots ≤ start + j → ⊥
-      high a =
-          let p = place_far (length slots) start j a in
-          let q = place_far (length slots) start k (omega arith) in
-          omega arith
+    turned_set : turned start (set slots (place_at (length slots) start n) x) ≡ set (turned start slots) n x
+    turned_set =
+        ⊎_elim
+        (λ near. ap (λ k. turned start (set slots k x)) (place_near (length slots) start n near) ∙ turned_near near)
+        (λ far. ap (λ k. turned start (set slots k x)) (place_far (length slots) start n far) ∙ turned_far far)
+        (cases_lt (start + n) (length slots))
 
-  -- to go on from where k places on leads
-  place_on : (k j : ℕ) → k + j < length slots → place_at (length slots) (place_at (length slots) start k) j ≡ place_at (length slots) start (k + j)
-  place_on k j h = ⊎_elim near far (cases_lt (start + k) (length slots))
-    where
-      near : start + k < length slots → place_at (length slots) (place_at (length slots) start k) j ≡ place_at (length slots) start (k + j)
-      near a =
-          let e : start + k + j ≡ start + (k + j) = omega arith in
-          ap (λ (x : ℕ). place_at (length slots) x j) (place_near (length slots) start k a) ∙ ap (λ (x : ℕ). cond (ltb x (length slots)) x (x - length slots)) e
+    pub push_values : live start (n + 1) (set slots (place_at (length slots) start n) x) ≡ live start n slots ++ x ∷ []
+    push_values = ap (take (n + 1)) turned_set ∙ take_more_set (turned start slots) n x (omega (arith, length_turned))
 
-      far : length slots ≤ start + k → place_at (length slots) (place_at (length slots) start k) j ≡ place_at (length slots) start (k + j)
-      far a =
-          let e : start + k - length slots + j ≡ start + (k + j) - length slots = omega arith in
-          ap (λ (x : ℕ). place_at (length slots) x j) (place_far (length slots) start k a)
-          ∙ place_near (length slots) (start + k - length slots) j (omega arith) ∙ e ∙ sym (place_far (length slots) start (k + j) (omega arith))
+  -- the first k values go
+  module _ (k : ℕ) (fits : n ≤ length slots) (some : k ≤ n) where
+    rest : drop k (live start n slots) ≡ take (n - k) (drop k (turned start slots))
+    rest =
+        let e : n ≡ k + (n - k) = omega arith in
+        ap (λ m. drop k (take m (turned start slots))) e ∙ drop-take k (n - k) (turned start slots)
 
--- the first k values go
-module _ {X : Type 0} (slots : List X) (start n k : ℕ) (within : start ≤ length slots) (fits : n ≤ length slots) (some : k ≤ n) where
-  pub skip_values : live (place_at (length slots) start k) (n - k) slots ≡ drop k (live start n slots)
-  skip_values =
-      let next = place_le slots start within k (omega arith) in
-      let long = length_live slots (place_at (length slots) start k) next (n - k) (omega arith) in
-      let before = length_live slots start within n fits in
-      let rest = length-drop k (live start n slots) in
-      same_lists (live (place_at (length slots) start k) (n - k) slots) (drop k (live start n slots)) (omega arith)
-      (λ j d h.
-      get_or_live slots (place_at (length slots) start k) next (n - k) j d (omega arith) (omega arith)
-      ∙ ap (λ (p : ℕ). get_or slots p d) (place_on slots start within k j (omega arith))
-      ∙ sym (get_or-drop k (live start n slots) j d ∙ get_or_live slots start within n (k + j) d fits (omega arith)))
+    -- what lies before the start stays behind the values
+    rest_near : start + k < length slots → take (n - k) (turned (start + k) slots) ≡ take (n - k) (drop k (turned start slots))
+    rest_near near =
+        let shorter : length (drop (start + k) slots ++ take start (take (start + k) slots)) ≡ length slots - k =
+        omega (arith, length-append (drop (start + k) slots) (take start (take (start + k) slots)), length-drop (start + k) slots, length-take-le (start + k) slots (omega arith), length-take-le start (take (start + k) slots) (omega (arith, length-take-le (start + k) slots (omega arith)))) in
+        ap (λ l. take (n - k) (drop (start + k) slots ++ l)) (sym (take-append-drop start (take (start + k) slots)))
+        ∙ ap (take (n - k)) (sym (append_assoc (drop (start + k) slots) (take start (take (start + k) slots)) (drop start (take (start + k) slots))))
+        ∙ take-append-le (n - k) (drop (start + k) slots ++ take start (take (start + k) slots)) (drop start (take (start + k) slots)) (omega arith)
+        ∙ ap (λ l. take (n - k) (drop (start + k) slots ++ l)) (take-take start (start + k) slots (omega arith))
+        ∙ ap (λ l. take (n - k) (l ++ take start slots)) (sym (drop-drop k start slots))
+        ∙ ap (take (n - k)) (sym (drop-append-le k (drop start slots) (take start slots) (omega (arith, upper))))
 
--- a push: ys are the slots after it
-module _ {X : Type 0} (slots ys : List X) (start n : ℕ) (value : X) (within : start ≤ length slots) (room : n < length slots) (ys-are : ys ≡ set slots (place_at (length slots) start n) value) where
-  same_length : length ys ≡ length slots
-  same_length = ap length ys-are ∙ length-set slots (place_at (length slots) start n) value
+    rest_far : length slots ≤ start + k → take (n - k) (turned (start + k - length slots) slots) ≡ take (n - k) (drop k (turned start slots))
+    rest_far far =
+        let s : ℕ = start + k - length slots in
+        let e : k ≡ length (drop start slots) + (start + k - length slots) = omega (arith, upper) in
+        let f : start ≡ (start + k - length slots) + (start - (start + k - length slots)) = omega arith in
+        take-append-le (n - k) (drop s slots) (take s slots) (omega (arith, length-drop (start + k - length slots) slots))
+        ∙ sym (take-take (n - k) (start - s) (drop s slots) (omega arith))
+        ∙ ap (take (n - k)) (sym (ap (λ m. drop s (take m slots)) f ∙ drop-take s (start - s) slots))
+        ∙ ap (take (n - k)) (sym (ap (λ m. drop m (turned start slots)) e ∙ drop-append-add (drop start slots) (take start slots) s))
 
-  -- what stands k places on
-  at : (k : ℕ) (d : X) → k < n + 1 → get_or (live start (n + 1) ys) k d ≡ get_or (set slots (place_at (length slots) start n) value) (place_at (length slots) start k) d
-  at k d h =
-      get_or_live ys start (omega (arith, same_length)) (n + 1) k d (omega (arith, same_length)) h
-      ∙ ap (λ (m : ℕ). get_or ys (place_at m start k) d) same_length ∙ ap (λ (zs : List X). get_or zs (place_at (length slots) start k) d) ys-are
-
-  pub push_values : live start (n + 1) ys ≡ live start n slots ++ value ∷ []
-  push_values =
-      let long = length_live ys start (omega (arith, same_length)) (n + 1) (omega (arith, same_length)) in
-      let before = length_live slots start within n (omega arith) in
-      let grown = length_push (live start n slots) value in
-      same_lists (live start (n + 1) ys) (live start n slots ++ value ∷ []) (omega arith)
-      (λ k d h. ⊎_elim (older k d) (λ l. newest k d (omega arith)) (cases_lt k n))
-    where
-      older : (k : ℕ) (d : X) → k < n → get_or (live start (n + 1) ys) k d ≡ get_or (live start n slots ++ value ∷ []) k d
-      older k d h =
-          at k d (omega arith) ∙ get_or-set_other slots (place_at (length slots) start n) (place_at (length slots) start k) value d (place_apart slots start within k n h room)
-          ∙ sym (get_or_live slots start within n k d (omega arith) h) ∙ sym (get_or_append_left (live start n slots) (value ∷ []) d k (let e = length_live slots start within n (omega arith) in omega arith))
-
-      newest : (k : ℕ) (d : X) → k ≡ n → get_or (live start (n + 1) ys) k d ≡ get_or (live start n slots ++ value ∷ []) k d
-      newest k d e =
-          at k d (omega arith) ∙ ap (λ (x : ℕ). get_or (set slots (place_at (length slots) start n) value) (place_at (length slots) start x) d) e
-          ∙ get_or-set_same slots (place_at (length slots) start n) value d (place_lt slots start within n (omega arith))
-          ∙ sym (get_or_push (live start n slots) value d k (length_live slots start within n (omega arith) ∙ sym e))
+    pub skip_values : live (place_at (length slots) start k) (n - k) slots ≡ drop k (live start n slots)
+    skip_values =
+        ⊎_elim
+        (λ near. ap (λ m. take (n - k) (turned m slots)) (place_near (length slots) start k near) ∙ rest_near near)
+        (λ far. ap (λ m. take (n - k) (turned m slots)) (place_far (length slots) start k far) ∙ rest_far far)
+        (cases_lt (start + k) (length slots))
+        ∙ sym rest

@@ -44,6 +44,8 @@ impl<'a, T> SliceVec<'a, T> {
 
 impl<'a, T: Copy> SliceVec<'a, T> {
     ghost use Rattle.std.specs.Prelude.{◌≡◌, ◌<◌, ◌+◌, [], ◌∷◌, ◌++◌, drop, filter_map, insert, remove, slice_get, slice_set, Option, Some};
+    ghost use Rattle.std.specs.Iterator.{IsFinite};
+    ghost use Rattle.std.specs.Iterator.Runs.{EachRunFrom, WholeRun};
     ghost use Rattle.slices.specs.Closures.{Computes};
     ghost use Rattle.slices.specs.Shifts.{with_value, without_value};
     ghost use Rattle.slices.specs.Vecs.{places, slice_vec_len, spare_places, values, KeepsSlice};
@@ -58,6 +60,20 @@ impl<'a, T: Copy> SliceVec<'a, T> {
     {
         self.slots[self.len] = value;
         self.len += 1;
+    }
+
+    // Puts all that an iterator gives behind those that are there.
+    pub fn extend<I: Iterator<Item = T>>(&mut self, iter: I)
+        requires can { I.can_next iter }
+        requires finite { IsFinite (I.remaining iter) }
+        requires room { EachRunFrom I.next_gives iter (λ p. slice_vec_len self.old + p.len ≤ length (places self.old)) }
+        ensures same_slice { KeepsSlice self.old self.new }
+        ensures runs { WholeRun I.next_gives iter (λ p. values self.new ≡ values self.old ++ p.items) }
+        ensures spare { spare_places self.new ≡ drop (slice_vec_len self.new) (places self.old) }
+    {
+        for value in iter {
+            self.push(value);
+        }
     }
 
     // Puts a value in at a place; those from there on move up by one.
