@@ -1,32 +1,30 @@
--- One row of a batch after another: which of those that are left are accepted.
-use Rattle.std.proofs.Common.{◌≡◌, ℕ, ◌+◌, Bool, true, false, cond, ◌&&◌, ◌⊎◌, List, [], ◌∷◌, map, filter, length, Option, refl, sym, ap, ◌∙◌, inl, inr, arith}
+-- The accepted rows of a batch, as a chain of iterators gives them.
+use Rattle.std.proofs.Common.{◌≡◌, ℕ, Bool, List, filter, Option}
+use Rattle.std.proofs.lemmas.Iterator.{YieldsList, YieldsList-from_slice, YieldsList-from_zip}
+use Rattle.std.proofs.lemmas.Iterator.Consumers.{YieldsList-from_enumerate, YieldsList-from_filter, YieldsList-from_first}
+use Rattle.std.specs.declared.iter.Enumerate.{Enumerate}
+use Rattle.std.specs.declared.iter.Filter.{Filter}
+use Rattle.std.specs.declared.iter.Zip.{Zip}
+use Rattle.std.specs.Fn.{CalledAt}
+use Rattle.std.specs.Iterator.{YieldsFirst}
+use Rattle.std.specs.Iterator.Adapters.{enumerate_count, enumerate_source, enumerate_steps, filter_callee, filter_source, filter_steps, zip_first, zip_second, zip_steps}
 use Rattle.std.specs.List.{enumerate_from, zip}
-use Rattle.std.proofs.lemmas.Bool.{cond-true, cond-false}
-use Rattle.columns.specs.Policies.{passes}
-use Rattle.records.specs.Batches.{accepted_from, marked}
-use Rattle.records.proofs.Laws.{accepted_cons, accepts, record_of}
+use Rattle.std.specs.Slice.Iter.{iter_rest, iter_steps}
+use Rattle.std.proofs.Common.{Iter}
+use Rattle.columns.specs.declared.iters.CellIter.{CellIter}
+use Rattle.columns.specs.Steps.{cells_left}
+use Rattle.records.proofs.Laws.{accepts}
+use denote.Param.Members.{Mut}
+use denote.Ref.{Bor}
 
--- where either side is at its end, no row is left
-pub zip_done : {X Y : Type 0} (xs : List X) (ys : List Y) → (length xs ≡ 0) ⊎ (ys ≡ []) → zip xs ys ≡ []
-zip_done [] ys h = refl
-zip_done (x ∷ xs) [] h = refl
-zip_done (x ∷ xs) (y ∷ ys) (inl e) = absurd (omega arith)
-zip_done (x ∷ xs) (y ∷ ys) (inr e) = cc
+-- a row of a batch: its number, its group and its cell
+abbrev pub row_of : {K : Type 0} → ℕ × (Bor ℕ × Option K) → ℕ × (ℕ × Option K)
+row_of row = (row.0, (row.1.0.now, row.1.1))
 
-module _ {K : Type 0} (ignore : Bool) (marks : Option (List Bool)) {i row next group : ℕ} {cell : Option K} {groups later : List ℕ} {cells others : List (Option K)}
-    (rows : ((groups ≡ group ∷ later) × (cells ≡ cell ∷ others)) × (row ≡ i) × (next ≡ i + 1)) where
-  step : accepted_from ignore marks i groups cells
-      ≡ cond (marked marks row && passes ignore cell) (record { group = group; cell = cell } ∷ accepted_from ignore marks next later others) (accepted_from ignore marks next later others)
-  step =
-      ap (λ gs. accepted_from ignore marks i gs cells) rows.0.0 ∙ ap (accepted_from ignore marks i (group ∷ later)) rows.0.1 ∙ accepted_cons ignore marks i group cell later others
-      ∙ ap (λ (n : ℕ). cond (marked marks i && passes ignore cell) (record { group = group; cell = cell } ∷ accepted_from ignore marks n later others) (accepted_from ignore marks n later others)) (sym rows.2)
-      ∙ ap (λ (k : ℕ). cond (marked marks k && passes ignore cell) (record { group = group; cell = cell } ∷ accepted_from ignore marks next later others) (accepted_from ignore marks next later others)) (sym rows.1)
-
-  pub row_accepted : true ≡ (marked marks row && passes ignore cell) → accepted_from ignore marks i groups cells ≡ record { group = group; cell = cell } ∷ accepted_from ignore marks next later others
-  row_accepted t = step ∙ cond-true (marked marks row && passes ignore cell) _ _ (sym t)
-
-  pub row_refused : false ≡ (marked marks row && passes ignore cell) → accepted_from ignore marks i groups cells ≡ accepted_from ignore marks next later others
-  row_refused t = step ∙ cond-false (marked marks row && passes ignore cell) _ _ (sym t)
-
-pub no_row : {K : Type 0} (ignore : Bool) (marks : Option (List Bool)) (i : ℕ) (groups : List ℕ) (cells : List (Option K)) → (length groups ≡ 0) ⊎ (cells ≡ []) → accepted_from ignore marks i groups cells ≡ []
-no_row ignore marks i groups cells h = ap (λ rows. map (record_of ignore marks) (filter (accepts ignore marks) (enumerate_from i rows))) (zip_done groups cells h)
+pub accepted_yielded : {K F : Type 0} (ignore : Bool) (marks : Option (List Bool)) (groups : List ℕ) (cells : List (Option K))
+    (g : Mut F (Bor (ℕ × (Bor ℕ × Option K)) × Unit {0}) Bool) (s : Filter (Enumerate (Zip (Iter ℕ) (CellIter K))) F) (f : F)
+    → iter_rest (zip_first (enumerate_source (filter_source s))) ≡ groups → cells_left (zip_second (enumerate_source (filter_source s))) ≡ cells → enumerate_count (filter_source s) ≡ 0
+    → filter_callee s ≡ f → ((row : ℕ × (Bor ℕ × Option K)) (b : Bool) (q : F) → CalledAt g f row b q → (q ≡ f) × (b ≡ accepts ignore marks (row_of row)))
+    → YieldsList (filter_steps (enumerate_steps (zip_steps iter_steps (YieldsFirst cells_left))) g) row_of s (filter (accepts ignore marks) (enumerate_from 0 (zip groups cells)))
+accepted_yielded ignore marks groups cells g s f first second count callee answers =
+    YieldsList-from_filter g (accepts ignore marks) (YieldsList-from_enumerate (YieldsList-from_zip (YieldsList-from_slice groups first) (YieldsList-from_first (λ x. x) cells_left cells second)) count) callee answers

@@ -1,5 +1,6 @@
 pub mod Accepting
 pub mod Appending
 pub mod Counting
+pub mod Extending
 pub mod Laws
 pub mod Merging

@@ -1,5 +1,5 @@
 -- The records of a column's lists, list by list: what is left of them, how many they are, and that they are few.
-use Rattle.std.proofs.Common.{◌≡◌, ℕ, zero, suc, ◌+◌, ◌-◌, ◌<◌, ◌≤◌, Bool, true, false, cond, List, [], ◌∷◌, ◌++◌, map, length, get_or, drop, sum_by, ℤ, Some, None, sym, refl, ap, ◌∙◌, ◌⊎◌, inr, add-one, arith, Option}
+use Rattle.std.proofs.Common.{◌≡◌, ℕ, zero, suc, ◌+◌, ◌-◌, ◌<◌, ◌≤◌, Bool, true, false, cond, List, [], ◌∷◌, ◌++◌, map, length, get_or, drop, sum_by, ℤ, Some, None, sym, refl, ap, ◌∙◌, ◌⊎◌, inl, inr, add-one, arith, Option}
 use Rattle.std.specs.List.{between, flat_map, range_with_len, zip}
 use Rattle.std.specs.Option.{option_map, option_to_list}
 use Rattle.std.proofs.lemmas.List.{flat_map_more, length-append, length-map, length-take}
@@ -11,12 +11,17 @@ use Rattle.columns.specs.declared.column.Part.{Part}
 use Rattle.columns.specs.Columns.{cells_in, column_rows, list_in, part_cells}
 use Rattle.columns.specs.Offsets.{GoodOffsets, start_of}
 use Rattle.columns.specs.Steps.{lists_in}
-use Rattle.columns.proofs.Making.{column_good}
 use Rattle.columns.proofs.Rules.{start_rises, start_within}
 use Rattle.records.specs.declared.record.Record.{Record}
 use Rattle.records.specs.Batches.{column_records, merged_records}
-use Rattle.records.proofs.Accepting.{zip_done}
 use Rattle.records.proofs.Laws.{Brought, for_group}
+
+-- where either side is at its end, no pair is left
+zip_done : {X Y : Type 0} (xs : List X) (ys : List Y) → (length xs ≡ 0) ⊎ (ys ≡ []) → zip xs ys ≡ []
+zip_done [] ys h = refl
+zip_done (x ∷ xs) [] h = refl
+zip_done (x ∷ xs) (y ∷ ys) (inl e) = absurd (omega arith)
+zip_done (x ∷ xs) (y ∷ ys) (inr e) = cc
 
 -- one more behind the second of two lists, where the first goes on
 zip_push : {X Y : Type 0} (xs : List X) (ys : List Y) (y : Y) (d : X) → length ys < length xs → zip xs (ys ++ y ∷ []) ≡ zip xs ys ++ (get_or xs (length ys) d, y) ∷ []
@@ -114,7 +119,7 @@ module _ {K : Type 0} (c : ListColumn K) (groups : List ℕ) where
   -- the lists of a column that was read have no more cells than lie behind it
   pub column_few : length (column_records c groups) ≤ 1048576
   column_few =
-      let good = column_good c in
+      let good = c.good in
       let a = merged_bound (row_valid c.map) c.offsets.now (cells_in c.cells) groups (column_rows c) (length c.cells.cues.now) good (column_rows c) (omega arith) in
       let b = start_within c.offsets.now (column_rows c) (length c.cells.cues.now) good (column_rows c) (omega arith) in
       let level = c.cells.level in

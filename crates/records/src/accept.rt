@@ -68,13 +68,16 @@ impl<'a, K: Copy> Batch<'a, K> {
         ensures len { slice_vec_len store.new ≡ slice_vec_len store.old + length (batch_records self.now) }
         ensures spare { spare_places store.new ≡ drop (slice_vec_len store.new) (places store.old) }
     {
-        for (i, (group, cell)) in self.groups.iter().zip(self.cells.iter()).enumerate() {
-            if self.filter.accepts(i, &cell) {
-                store.push(Record {
+        store.extend(
+            self.groups
+                .iter()
+                .zip(self.cells.iter())
+                .enumerate()
+                .filter(|(i, (_, cell))| self.filter.accepts(*i, cell))
+                .map(|(_, (group, cell))| Record {
                     group: *group,
                     cell,
-                });
-            }
-        }
+                }),
+        );
     }
 }

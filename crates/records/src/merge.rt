@@ -1,11 +1,11 @@
 // The lists of a column, each for a group: their cells counted, and appended to a store.
-ghost use Rattle.std.specs.Prelude.{◌≡◌, ℕ, ◌+◌, ◌≤◌, List, ◌++◌, map, length, drop};
-ghost use Rattle.columns.specs.Columns.{column_rows, part_cells};
+ghost use Rattle.std.specs.Prelude.{◌≡◌, ℕ, ◌+◌, ◌≤◌, List, ◌++◌, length, drop};
+ghost use Rattle.columns.specs.Columns.{column_rows};
 ghost use Rattle.slices.specs.Vecs.{places, slice_vec_len, spare_places, values, KeepsSlice};
 ghost use Rattle.records.specs.Batches.{column_records};
 
 use crate::Record;
-use columns::{ListColumn, Part};
+use columns::ListColumn;
 use slices::SliceVec;
 
 // How many cells the valid lists have, whatever their groups.
@@ -13,18 +13,6 @@ pub fn count_merged<K: Copy>(column: &ListColumn<K>) -> usize
     ensures { (groups : List ℕ) → result ≡ length (column_records column.now groups) }
 {
     column.iter().flatten().map(|part| part.len()).sum()
-}
-
-// Appends the cells of a part, all for one group.
-fn append_list<K: Copy>(store: &mut SliceVec<Record<K>>, group: u32, part: &Part<K>)
-    requires { slice_vec_len store.old + length (part_cells part.now) ≤ length (places store.old) }
-    ensures same_slice { KeepsSlice store.old store.new }
-    ensures values { values store.new ≡ values store.old ++ map (λ c. record { group = group; cell = c }) (part_cells part.now) }
-    ensures spare { spare_places store.new ≡ drop (slice_vec_len store.new) (places store.old) }
-{
-    for cell in part.iter() {
-        store.push(Record { group, cell });
-    }
 }
 
 // Appends the records of all lists, each for its group, in the order of the lists.
@@ -42,7 +30,12 @@ pub fn append_merged<K: Copy>(
 {
     for (group, list) in groups.iter().zip(column.iter()) {
         if let Some(part) = list {
-            append_list(store, *group, &part);
+            store.extend(
+                part.iter().map(|cell| Record {
+                    group: *group,
+                    cell,
+                }),
+            );
         }
     }
 }
