@@ -95,13 +95,14 @@ module _ {K : Type 0} where
       go true = refl
       go false = refl
 
+  -- the record that a row brings
+  abbrev pub record_of : ℕ × (ℕ × Option K) → Record K
+  record_of row = record { group = row.1.0; cell = row.1.1 }
+
   -- of a batch, no more records are accepted than it has groups, and each for one of those
   module _ (ignore : Bool) (marks : Option (List Bool)) where
     abbrev pub accepts : ℕ × (ℕ × Option K) → Bool
     accepts row = marked marks row.0 && passes ignore row.1.1
-
-    abbrev pub record_of : ℕ × (ℕ × Option K) → Record K
-    record_of row = record { group = row.1.0; cell = row.1.1 }
 
     pub length_accepted : (i : ℕ) (groups : List ℕ) (cells : List (Option K)) → length (accepted_from ignore marks i groups cells) ≡ length (filter accepts (enumerate_from i (zip groups cells)))
     length_accepted i groups cells = length-map (filter accepts (enumerate_from i (zip groups cells))) record_of

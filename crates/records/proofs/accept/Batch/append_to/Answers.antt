@@ -15,7 +15,7 @@ extend-requires-clause-room g c =
     let batch = c.args.self.now in
     let marks = option_map (λ x. x.now) batch.filter.marks in
     extension_fits
-    (YieldsList-from_map _ (record_of batch.filter.ignore marks)
+    (YieldsList-from_map _ record_of
     (YieldsList-at c.map.ensures.source
     (accepted_yielded batch.filter.ignore marks batch.groups.now (cells_in batch.cells.now) _ c.filter.result _ (cc) (cc) (cc) c.filter.ensures.closure (λ x b q k. search (rules, tests))))
     c.map.ensures.closure (λ x r q k. search (rules, tests)))
@@ -26,7 +26,7 @@ returns-clause-values g c =
     let batch = c.args.self.now in
     let marks = option_map (λ x. x.now) batch.filter.marks in
     extended
-    (YieldsList-from_map _ (record_of batch.filter.ignore marks)
+    (YieldsList-from_map _ record_of
     (YieldsList-at c.map.ensures.source
     (accepted_yielded batch.filter.ignore marks batch.groups.now (cells_in batch.cells.now) _ c.filter.result _ (cc) (cc) (cc) c.filter.ensures.closure (λ x b q k. search (rules, tests))))
     c.map.ensures.closure (λ x r q k. search (rules, tests)))
