@@ -1,4 +1,5 @@
 pub mod AsIs
+pub mod Steps
 pub mod Making
 pub mod Merging
 pub mod Reading

@@ -49,7 +49,7 @@ module _ {K : Type 0} (p : ColumnParts K) where
   good_when b h = (λ e. column_decides.0 (sym h ∙ e), λ good. h ∙ column_decides.1 good)
 
 pub column_good : {K : Type 0} (c : ListColumn K) → GoodOffsets c.offsets.now (row_count c.map) (length c.cells.cues.now)
-column_good c = record { long = c.long; first = c.first; rising = c.rising; last = c.last }
+column_good c = c.good
 
 pub list_same : {K : Type 0} (f g : ℕ → Bool) (offsets : List ℤ) (xs ys : List (Option K)) (i : ℕ) → f i ≡ g i → xs ≡ ys → list_in f offsets xs i ≡ list_in g offsets ys i
 list_same {K} f g offsets xs ys i valid cells =

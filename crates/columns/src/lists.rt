@@ -1,7 +1,9 @@
 // List columns, checked and read.
-ghost use Rattle.std.specs.Prelude.{◌≡◌, ℕ, ◌+◌, ◌<◌, ◌≤◌, ◌↔◌, length, IsOk, IfOk};
+ghost use Rattle.std.specs.Prelude.{◌≡◌, ℕ, ◌+◌, ◌<◌, ◌≤◌, ◌↔◌, length, IsOk, IfOk, IfSome};
+ghost use Rattle.std.specs.Option.{option_map};
+ghost use Rattle.std.specs.Result.{result_map_both};
 ghost use Rattle.refusals.specs.Checks.{outcome_of, unless};
-ghost use Rattle.columns.specs.Columns.{GoodColumn, OfPart, PartOf, column_checks, column_row_checks, column_rows, list_at, list_read, passed_list};
+ghost use Rattle.columns.specs.Columns.{GoodColumn, PartOf, column_checks, column_row_checks, column_rows, list_at, part_cells, passed_list};
 ghost use Rattle.columns.specs.Offsets.{start_of};
 
 use crate::maps::row_valid;
@@ -47,8 +49,8 @@ impl<'a, K: Copy> ListColumn<'a, K> {
 
     // Row i: none where it is null, or the part of the cells that it covers.
     pub fn list(&self, i: usize) -> Result<Option<Part<'a, K>>, Refusal>
-        ensures answer { list_read result ≡ unless (column_row_checks self.now i) (list_at self.now i) }
-        ensures part { OfPart result (PartOf self.now (start_of self.now.offsets.now i) (start_of self.now.offsets.now (i + 1))) }
+        ensures answer { result_map_both (option_map part_cells) (λ e. e) result ≡ unless (column_row_checks self.now i) (list_at self.now i) }
+        ensures part { IfOk result (λ list. IfSome list (PartOf self.now (start_of self.now.offsets.now i) (start_of self.now.offsets.now (i + 1)))) }
     {
         if i >= self.rows() {
             return Err(Refusal::IndexOutOfRange);
