@@ -7,7 +7,6 @@ mod cells;
 mod column;
 mod iters;
 mod lists;
-mod maps;
 mod offset;
 mod parts;
 mod policy;
