@@ -34,7 +34,6 @@ pub fn copy_list<K: Keyed>(
     cues: &mut [K],
     cell_map: &mut [u8],
 ) -> usize
-    requires few { length records.now ≤ 1048576 }
     requires cues { length (list_of j records.now) ≤ length cues.old }
     requires marks { bytes_for (length (list_of j records.now)) ≤ length cell_map.old }
     ensures answer { result ≡ length (list_of j records.now) }

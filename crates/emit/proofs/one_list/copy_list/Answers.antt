@@ -4,11 +4,10 @@ use Rattle.bitmap.specs.Maps.{MapWritten}
 use Rattle.records.specs.Lists.{cell_valid, cue_of}
 use Rattle.records.specs.Records.{list_of}
 use Rattle.emit.proofs.Marking.{cleared_drop, cleared_zero, written_over}
-use Rattle.emit.proofs.Sorting.{size_len}
 use Rattle.emit.proofs.one_list.copy_list.Goals as goal
 
 pub clear_map-requires : goal.clear_map-requires
-clear_map-requires g c = (omega (arith, c.count_list-size.ensures, size_len c.args.records.now c.args.j), omega (arith, c.count_list-size.ensures))
+clear_map-requires g c = omega (arith, c.count_list-size.ensures)
 
 pub copy_cells-requires-clause-clear : goal.copy_cells-requires-clause-clear
 copy_cells-requires-clause-clear g c = λ k h.
