@@ -1,7 +1,7 @@
-use Rattle.std.proofs.Common.{◌≡◌, ℕ, ◌++◌, map, drop, sym, subst, arith}
+use Rattle.std.proofs.Common.{ℕ, sym, subst, arith}
 use Rattle.bitmap.specs.Bits.{bytes_for}
 use Rattle.bitmap.specs.Maps.{MapWritten}
-use Rattle.records.specs.Lists.{cell_valid, cue_of}
+use Rattle.records.specs.Lists.{cell_valid}
 use Rattle.records.specs.Records.{list_of}
 use Rattle.emit.proofs.Marking.{cleared_drop, cleared_zero, written_over}
 use Rattle.emit.proofs.one_list.copy_list.Goals as goal
