@@ -8,12 +8,10 @@ use kinds::Keyed;
 
 // Clears the bytes of the map of so many rows.
 pub(crate) fn clear_map(map: &mut [u8], rows: usize)
-    requires { (rows ≤ 1048576) × (bytes_for rows ≤ length map.old) }
+    requires { bytes_for rows ≤ length map.old }
     ensures { map.new ≡ replicate (bytes_for rows) 0 ++ drop (bytes_for rows) map.old }
 {
-    for k in 0..(rows + 7) / 8 {
-        map[k] = 0;
-    }
+    map[..rows.div_ceil(8)].fill(0);
 }
 
 // Marks row i as valid.

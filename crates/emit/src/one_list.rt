@@ -1,12 +1,12 @@
 // One list of the store.
-ghost use Rattle.std.specs.Prelude.{◌≡◌, ℕ, ◌<◌, ◌≤◌, ◌++◌, map, length, take, drop, slice_index};
+ghost use Rattle.std.specs.Prelude.{◌≡◌, ℕ, ◌<◌, ◌≤◌, ◌++◌, map, length, drop, slice_index};
 ghost use Rattle.bitmap.specs.Bits.{bytes_for};
 ghost use Rattle.bitmap.specs.Maps.{MapWritten};
 ghost use Rattle.records.specs.Lists.{cell_valid, cue_of};
 ghost use Rattle.records.specs.Records.{list_of};
 
 use crate::cell_map::{clear_map, put_cell};
-use crate::counts::{count_list, front};
+use crate::counts::count_list;
 use kinds::Keyed;
 use records::Record;
 
@@ -29,22 +29,19 @@ fn copy_cells<K: Keyed>(records: &[Record<K>], j: u32, cues: &mut [K], cell_map:
 
 // Writes the cues of list j and the map of its cells, and answers how many cells it has.
 pub fn copy_list<K: Keyed>(
-    store: &[Record<K>],
-    held: usize,
+    records: &[Record<K>],
     j: u32,
     cues: &mut [K],
     cell_map: &mut [u8],
 ) -> usize
-    requires few { length (take held store.now) ≤ 1048576 }
-    requires cues { length (list_of j (take held store.now)) ≤ length cues.old }
-    requires marks { bytes_for (length (list_of j (take held store.now))) ≤ length cell_map.old }
-    ensures answer { result ≡ length (list_of j (take held store.now)) }
-    ensures cues { cues.new ≡ map (cue_of K.Keyed.empty) (list_of j (take held store.now)) ++ drop result cues.old }
-    ensures marks { MapWritten (cell_valid (list_of j (take held store.now))) result cell_map.old cell_map.new }
+    requires cues { length (list_of j records.now) ≤ length cues.old }
+    requires marks { bytes_for (length (list_of j records.now)) ≤ length cell_map.old }
+    ensures answer { result ≡ length (list_of j records.now) }
+    ensures cues { cues.new ≡ map (cue_of K.Keyed.empty) (list_of j records.now) ++ drop result cues.old }
+    ensures marks { MapWritten (cell_valid (list_of j records.now)) result cell_map.old cell_map.new }
 {
-    let size = count_list(store, held, j);
+    let size = count_list(records, j);
     clear_map(cell_map, size);
-    let records = front(store, held);
     copy_cells(records, j, cues, cell_map);
     size
 }
