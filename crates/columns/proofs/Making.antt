@@ -50,10 +50,3 @@ module _ {K : Type 0} (p : ColumnParts K) where
 
 pub column_good : {K : Type 0} (c : ListColumn K) → GoodOffsets c.offsets.now (row_count c.map) (length c.cells.cues.now)
 column_good c = c.good
-
-pub list_same : {K : Type 0} (f g : ℕ → Bool) (offsets : List ℤ) (xs ys : List (Option K)) (i : ℕ) → f i ≡ g i → xs ≡ ys → list_in f offsets xs i ≡ list_in g offsets ys i
-list_same {K} f g offsets xs ys i valid cells =
-    ap (λ (b : Bool). row b xs) valid ∙ ap (row (g i)) cells
-  where
-    row : Bool → List (Option K) → Option (List (Option K))
-    row b zs = cond b (Some (between (start_of offsets i) (start_of offsets (i + 1)) zs)) None

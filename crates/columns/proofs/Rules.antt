@@ -4,6 +4,7 @@ use lib.Signed.{le_z}
 use Rattle.std.proofs.lemmas.Int.{ints}
 use Rattle.std.proofs.lemmas.Bool.{both_ways, cases_Bool, cases_eq, and_from, and_parts, eqb-true, eq-eqb, false≢true}
 use Rattle.std.proofs.lemmas.Bool.Decides.{Decides-below_and}
+use Rattle.std.specs.Bool.{passes}
 use Rattle.std.specs.Cmp.{int_ranks}
 use Rattle.std.specs.List.{IsEachAdjacentAnswer}
 use Rattle.std.specs.Ordering.{MatchOrdering, int_cmp, is_le, partial_le}
@@ -11,16 +12,12 @@ use Rattle.std.specs.declared.cmp.Ordering.{Ordering}
 use Rattle.std.specs.declared.cmp.Ordering.TheVariants.{Less, Equal, Greater}
 use Rattle.columns.specs.Offsets.{GoodOffsets, natural, offset_at, offsets_keep, rises, start_of}
 
-test_holds : (b : Bool) → b ≡ true → T b
-test_holds true e = tt
-test_holds false e = absurd (false≢true e)
-
 test_true : (b : Bool) → T b → b ≡ true
 test_true true h = refl
 test_true false h = absurd h
 
 le_z_decides : (a b : ℤ) → Decides (le_z a b) (a ≤ℤ b)
-le_z_decides a b = (λ e. record { le = test_holds (le_z a b) e }, λ h. test_true (le_z a b) h.le)
+le_z_decides a b = (λ e. record { le = passes (le_z a b) e }, λ h. test_true (le_z a b) h.le)
 
 cmp_decides : (a b : ℤ) → Decides (partial_le (λ x y. Some (int_cmp x y)) a b) (a ≤ℤ b)
 cmp_decides a b = ranked (int_cmp a b) (int_ranks a b)

@@ -37,7 +37,7 @@ impl<'a, K: Copy> Cells<'a, K> {
     pub fn len(&self) -> usize
         ensures { result ≡ length (cells_in self.now) }
     {
-        self.cues.len()
+        self.whole().len()
     }
 
     pub fn cell(&self, i: usize) -> Result<Option<K>, Refusal>

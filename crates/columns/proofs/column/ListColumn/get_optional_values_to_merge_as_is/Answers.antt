@@ -1,4 +1,4 @@
-use Rattle.std.proofs.Common.{◌≡◌, ℕ, ◌+◌, ◌<◌, false, length, sym, ap, ◌∙◌, arith}
+use Rattle.std.proofs.Common.{◌≡◌, ℕ, ◌+◌, ◌<◌, false, length, sym, ap, ◌∙◌, arith, rules}
 use Rattle.bitmap.specs.Maps.{row_valid}
 use Rattle.columns.specs.Columns.{column_rows}
 use Rattle.columns.specs.Offsets.{start_of}
@@ -30,7 +30,7 @@ pub returns-in_default : goal.returns-in_default
 returns-in_default g c =
     let column = c.args.self.now in
     let none : (k : ℕ) → k < column_rows column → row_valid column.map k ≡ false =
-    elim c.in_default.branch [ in_default-via-in-Some+in_default w ↦ w.in_default.ensures' | in_default-via-in_default w ↦ w.in_default.ensures-1 ] in
+    elim c.in_default.branch [ in_default-via-in-Some+in_default w ↦ search rules | in_default-via-in_default w ↦ search rules ] in
     record {
       part = given_null column c.cut-in_default.result (some_rows column.map (λ e. c.if-null_count-eq0.false (c.null_count.ensures ∙ e))) none c.cut-in_default.ensures;
       joined = joined_null column c.cut-in_default.result none c.cut-in_default.ensures;
