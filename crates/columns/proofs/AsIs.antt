@@ -1,5 +1,5 @@
 -- What is given as the part to merge as it stands, from where the first and the last valid row are.
-use Rattle.std.proofs.Common.{◌≡◌, ℕ, ◌+◌, ◌-◌, ◌<◌, ◌≤◌, Bool, true, false, cond, not, eqb, ◌⊎◌, List, map, length, ℤ, Some, None, sym, ap, ◌∙◌, subst, inl, inr, ⊎_elim, arith}
+use Rattle.std.proofs.Common.{◌≡◌, ℕ, ◌+◌, ◌-◌, ◌<◌, ◌≤◌, Bool, true, false, cond, not, eqb, List, map, length, ℤ, Some, None, sym, ap, ◌∙◌, subst, inl, ⊎_elim, arith}
 use Rattle.std.specs.List.{range_with_len, between}
 use Rattle.std.proofs.lemmas.List.FromFn.{get_or-map-range_with_len, length-map-range_with_len}
 use Rattle.std.proofs.lemmas.List.Edits.{between_none}
@@ -12,7 +12,6 @@ use Rattle.columns.specs.declared.column.Part.{Part}
 use Rattle.columns.specs.Columns.{PartOf, cells_in, column_rows, part_cells}
 use Rattle.columns.specs.Merging.{ColumnGap, RowCovers, RowWhole, column_span, first_valid, merge_span, merged_cells, past_valid, all_whole_from}
 use Rattle.columns.specs.Offsets.{start_of}
-use Rattle.columns.proofs.Making.{column_good}
 use Rattle.columns.proofs.Merging.{first_found, first_none, gap_not, merged_run, past_found, valid_none, whole_from, whole_not}
 
 -- where no row is null, each is valid
@@ -72,7 +71,7 @@ module _ {K : Type 0} (c : ListColumn K) (p : Part K) where
       → ((k : ℕ) → from ≤ k → k < to → RowWhole c k) → low ≡ start_of c.offsets.now from → high ≡ start_of c.offsets.now to → PartOf c low high p → Joined c p
   joined_rows from to low high l r before after inside low-is high_is part = (
     part.cells ∙ ap (λ (x : ℕ). between x high (cells_in c.cells)) low-is ∙ ap (λ (x : ℕ). between (start_of c.offsets.now from) x (cells_in c.cells)) high_is
-        ∙ sym (merged_run (row_valid c.map) c.offsets.now (cells_in c.cells) (column_rows c) (length c.cells.cues.now) (column_good c) from to l r before after inside),
+        ∙ sym (merged_run (row_valid c.map) c.offsets.now (cells_in c.cells) (column_rows c) (length c.cells.cues.now) c.good from to l r before after inside),
     gap_not (row_valid c.map) c.offsets.now (column_rows c) from to before after inside,
   )
 

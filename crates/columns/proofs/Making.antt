@@ -1,6 +1,5 @@
 -- The checks of a list column pass exactly if its parts keep the rules, and what is made of them reads as they do.
-use Rattle.std.proofs.Common.{◌≡◌, ℕ, ◌+◌, Bool, cond, ltb, List, length, ℤ, is_ok, Some, None, Decides, Option, sym, ap, ◌∙◌}
-use Rattle.std.specs.List.{between}
+use Rattle.std.proofs.Common.{◌≡◌, Bool, ltb, length, is_ok, Decides, sym, ap, ◌∙◌}
 use Rattle.std.proofs.lemmas.Bool.{not-false, not_from_true, eqb-true, eq-eqb, ltb-false, le-ltb, or_parts, or_from}
 use Rattle.refusals.specs.Checks.{unless}
 use Rattle.refusals.proofs.Checks.{Pass, unless_pass, pass_from_ok}
@@ -8,8 +7,8 @@ use Rattle.bitmap.specs.Bits.{bytes_for}
 use Rattle.bitmap.specs.Maps.{row_count}
 use Rattle.columns.specs.declared.column.ColumnParts.{ColumnParts}
 use Rattle.columns.specs.declared.column.ListColumn.{ListColumn}
-use Rattle.columns.specs.Columns.{GoodColumn, column_checks, list_in}
-use Rattle.columns.specs.Offsets.{GoodOffsets, start_of}
+use Rattle.columns.specs.Columns.{GoodColumn, column_checks}
+use Rattle.columns.specs.Offsets.{GoodOffsets}
 use Rattle.columns.proofs.Rules.{offsets_decide}
 
 module _ {K : Type 0} (p : ColumnParts K) where

@@ -1,5 +1,5 @@
 -- The part that can be merged as it stands is the valid lists' cells, joined in order.
-use Rattle.std.proofs.Common.{◌≡◌, ℕ, zero, suc, ◌+◌, ◌-◌, ◌<◌, ◌≤◌, Bool, true, false, cond, ltb, ◌⊎◌, List, [], ◌∷◌, ◌++◌, take, drop, ℤ, sym, refl, ap, ◌∙◌, inl, inr, ⊎_elim, add-one, arith, Option}
+use Rattle.std.proofs.Common.{◌≡◌, ℕ, zero, suc, ◌+◌, ◌-◌, ◌<◌, ◌≤◌, Bool, true, false, cond, ltb, ◌⊎◌, List, [], ◌++◌, take, drop, ℤ, sym, refl, ap, ◌∙◌, inl, inr, ⊎_elim, add-one, arith, Option}
 use Rattle.std.specs.List.{between}
 use Rattle.std.proofs.Math.Seq.{take-add}
 use Rattle.std.proofs.lemmas.List.Edits.{between_none}

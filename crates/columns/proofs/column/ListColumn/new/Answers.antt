@@ -1,4 +1,4 @@
-use Rattle.std.proofs.Common.{true, false, length, rules}
+use Rattle.std.proofs.Common.{false, length, rules}
 use Rattle.columns.proofs.Making.{good_when}
 use Rattle.columns.proofs.Rules.{offsets_decide}
 use Rattle.columns.proofs.column.ListColumn.new.Goals as goal
@@ -8,6 +8,3 @@ returns-then-not-offsets_keep-clause-good g c = good_when c.args.parts false (se
 
 pub invariant_of-result-clause-good : goal.invariant_of-result-clause-good
 invariant_of-result-clause-good g c = (offsets_decide c.args.parts.offsets.now c.in_ok-map.map.rows (length c.in_ok-cells.cells.cues.now)).0 (search rules)
-
-pub returns-clause-good : goal.returns-clause-good
-returns-clause-good g c = good_when c.args.parts true (search rules)
