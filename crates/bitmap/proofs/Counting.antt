@@ -1,10 +1,14 @@
--- The valid rows of a map, counted by set bits: a part of a byte, a byte, eight bytes.
-use Rattle.std.proofs.Common.{◌≡◌, ℕ, zero, suc, ◌+◌, ◌*◌, ◌/◌, ◌%◌, ◌^◌, ◌<◌, ◌≤◌, Bool, true, false, cond, not, eqb, List, [], ◌∷◌, map, length, get_or, count_by, sym, refl, ap, ◌∙◌, add-zero, mod-lt, one-add, arith}
+-- The valid rows of a map, counted by set bits: in a part of a byte, in bytes, in bytes taken eight at a time.
+use Rattle.std.proofs.Common.{◌≡◌, ℕ, zero, suc, ◌+◌, ◌*◌, ◌/◌, ◌%◌, ◌^◌, ◌<◌, ◌≤◌, Bool, true, false, cond, not, eqb, List, [], ◌∷◌, map, length, get_or, take, drop, count_by, sum_by, sym, refl, ap, ◌∙◌, add-zero, mod-lt, pow-suc, one-add, add-one, arith}
 use lib.Count.{ones, ones_cat, ones-ones}
-use Rattle.std.proofs.lemmas.Nat.{mod-pow-add, mod_below, pow_pos}
-use Rattle.std.proofs.lemmas.List.FromFn.{length-map-range_with_len, sum_by-map-range_with_len_more}
-use Rattle.std.proofs.lemmas.List.Sums.{count_by-le-length, sum_by-cons}
+use Rattle.std.proofs.Math.Nat.{mul-le-mul_right}
+use Rattle.std.proofs.lemmas.Nat.{mod-pow-add, mod_below, pow_pos, pow-add}
+use Rattle.std.proofs.lemmas.List.{take-append-drop, take-take, drop-take, take_all, get_or-take, length-take-le}
+use Rattle.std.proofs.lemmas.List.FromFn.{fill_by_all, get_or-map-range_with_len, length-map-range_with_len, sum_by-map-range_with_len_more}
+use Rattle.std.proofs.lemmas.List.Sums.{count_by-le-length, sum_by-append, sum_by-cons, sum_by_more, sum_by-take-drop}
+use Rattle.std.specs.Int.{byte_worth, from_le_bytes, sum_through, w64}
 use Rattle.std.specs.List.{range_with_len}
+use Rattle.std.specs.Simd.{first_chunks}
 use Rattle.bitmap.specs.Bits.{valid_at}
 use Rattle.bitmap.specs.Counts.{valid_in}
 
@@ -17,7 +21,7 @@ nulls_and_valid [] = refl
 nulls_and_valid (true ∷ vs) = omega (arith, sum_by-cons (λ x. cond (not x) 1 0) true vs, sum_by-cons (λ x. cond x 1 0) true vs, nulls_and_valid vs)
 nulls_and_valid (false ∷ vs) = omega (arith, sum_by-cons (λ x. cond (not x) 1 0) false vs, sum_by-cons (λ x. cond x 1 0) false vs, nulls_and_valid vs)
 
-pub nulls_are : (xs : List ℕ) (n : ℕ) → count_by not (map (valid_at xs) (range_with_len 0 n)) + valid_in xs n ≡ n
+nulls_are : (xs : List ℕ) (n : ℕ) → count_by not (map (valid_at xs) (range_with_len 0 n)) + valid_in xs n ≡ n
 nulls_are xs n = nulls_and_valid (map (valid_at xs) (range_with_len 0 n)) ∙ length-map-range_with_len (valid_at xs) 0 n
 
 -- a bit counts itself
@@ -33,7 +37,7 @@ ones_more b j =
     ap (λ (x : ℕ). ones (b % 2 ^ x)) (sym (one-add j)) ∙ ap ones (mod-pow-add b 1 j) ∙ ones_cat j (b / 2 ^ j % 2) (b % 2 ^ j) (mod_below b (2 ^ j) (pow_pos j))
 
 -- the first j rows of byte k
-pub valid_part : (xs : List ℕ) (k j : ℕ) → j ≤ 8 → valid_in xs (8 * k + j) ≡ valid_in xs (8 * k) + ones (get_or xs k 0 % 2 ^ j)
+valid_part : (xs : List ℕ) (k j : ℕ) → j ≤ 8 → valid_in xs (8 * k + j) ≡ valid_in xs (8 * k) + ones (get_or xs k 0 % 2 ^ j)
 valid_part xs k zero h =
     let none : get_or xs k 0 % 1 ≡ 0 = omega arith in
     omega (arith, ap (valid_in xs) (add-zero (8 * k)), ap ones none, ones-ones 0)
@@ -46,48 +50,117 @@ valid_part xs k (suc j) h =
     let bit = one_bit (get_or xs k 0 / 2 ^ j % 2) (mod-lt _ (omega arith)) in
     omega (arith, ap (valid_in xs) place, ones_more (get_or xs k 0) j, valid_part xs k j (omega arith))
 
--- the eight rows of byte k
-pub valid_byte : (xs : List ℕ) (k next : ℕ) → next ≡ k + 1 → get_or xs k 0 < 256 → valid_in xs (8 * next) ≡ valid_in xs (8 * k) + ones (get_or xs k 0)
-valid_byte xs k next e h =
-    let place : 8 * next ≡ 8 * k + 8 = omega arith in
-    let whole : get_or xs k 0 % 2 ^ 8 ≡ get_or xs k 0 = omega arith in
-    omega (arith, ap (valid_in xs) place, valid_part xs k 8 (omega arith), ap ones whole)
+-- the rows of whole bytes
+valid_bytes : (xs : List ℕ) (n : ℕ) → n ≤ length xs → ((i : ℕ) → get_or xs i 0 < 256) → valid_in xs (8 * n) ≡ sum_by ones (take n xs)
+valid_bytes xs zero h fits = refl
+valid_bytes xs (suc n) h fits =
+    let place : 8 * suc n ≡ 8 * n + 8 = omega arith in
+    let whole : get_or xs n 0 % 2 ^ 8 ≡ get_or xs n 0 = omega (arith, fits n) in
+    omega (
+      arith,
+      ap (valid_in xs) place,
+      valid_part xs n 8 (omega arith),
+      ap ones whole,
+      sum_by_more ones xs n 0 (omega arith),
+      ap (λ (x : ℕ). sum_by ones (take x xs)) (add-one n),
+      valid_bytes xs n (omega arith) fits,
+    )
 
--- eight bytes as one number, lowest first
-ones_word : (a b c d e f g h : ℕ) → a < 256 → b < 256 → c < 256 → d < 256 → e < 256 → f < 256 → g < 256
-    → ones (a + b * 256 + c * 65536 + d * 16777216 + e * 4294967296 + f * 1099511627776 + g * 281474976710656 + h * 72057594037927936)
-    ≡ ones a + ones b + ones c + ones d + ones e + ones f + ones g + ones h
-ones_word a b c d e f g h la lb lc ld le lf lg =
-    let s : a + b * 256 + c * 65536 + d * 16777216 + e * 4294967296 + f * 1099511627776 + g * 281474976710656 + h * 72057594037927936
-    ≡ ((((((h * 2 ^ 8 + g) * 2 ^ 8 + f) * 2 ^ 8 + e) * 2 ^ 8 + d) * 2 ^ 8 + c) * 2 ^ 8 + b) * 2 ^ 8 + a = omega arith in
+-- the rows of the bytes at the front
+valid_front : (xs : List ℕ) (k n : ℕ) → n ≤ 8 * k → valid_in (take k xs) n ≡ valid_in xs n
+valid_front xs k n h = ap (count_by (λ v. v)) same
+  where
+    same : map (valid_at (take k xs)) (range_with_len 0 n) ≡ map (valid_at xs) (range_with_len 0 n)
+    same =
+        fill_by_all (valid_at xs) (map (valid_at (take k xs)) (range_with_len 0 n)) n false (length-map-range_with_len (valid_at (take k xs)) 0 n)
+        (λ i l. get_or-map-range_with_len (valid_at (take k xs)) 0 n i i false l (omega arith) ∙ ap (λ (x : ℕ). eqb (x / 2 ^ (i % 8) % 2) 1) (get_or-take k xs (i / 8) 0 (omega arith)))
+
+-- whole bytes and the rows of the byte after them; the rows that neither counts are null
+pub rows_counted : (xs : List ℕ) (rows valid part : ℕ) → rows / 8 ≤ length xs
+    → valid ≡ valid_in (take (rows / 8) xs) (8 * length (take (rows / 8) xs))
+    → part ≡ get_or xs (rows / 8) 0 % 2 ^ (rows % 8)
+    → (valid + ones part ≤ rows) × (count_by not (map (valid_at xs) (range_with_len 0 rows)) + (valid + ones part) ≡ rows)
+rows_counted xs rows valid part h e p =
+    let place : 8 * (rows / 8) + rows % 8 ≡ rows = omega arith in
+    let all : valid_in xs rows ≡ valid + ones part =
+    omega (
+      arith,
+      ap (valid_in xs) place,
+      valid_part xs (rows / 8) (rows % 8) (omega arith),
+      ap (λ (x : ℕ). valid_in (take (rows / 8) xs) (8 * x)) (length-take-le (rows / 8) xs h),
+      valid_front xs (rows / 8) (8 * (rows / 8)) (omega arith),
+      ap ones p,
+    ) in
+    (omega (arith, valid_in_le xs rows), omega (arith, nulls_are xs rows))
+
+-- ---- bytes read as one number, lowest first
+bytes_up_to : List ℕ → ℕ → ℕ
+bytes_up_to bs k = sum_through (λ i. byte_worth i (get_or bs i 0)) k
+
+pow_of_byte : (k : ℕ) → 256 ^ k ≡ 2 ^ (8 * k)
+pow_of_byte zero = refl
+pow_of_byte (suc k) =
+    let e : 8 * suc k ≡ 8 * k + 8 = omega arith in
+    omega (arith, pow-suc 256 k, ap (λ (x : ℕ). 2 ^ x) e, pow-add 2 (8 * k) 8, pow_of_byte k)
+
+bytes_up_to_lt : (bs : List ℕ) (fits : (i : ℕ) → get_or bs i 0 < 256) (k : ℕ) → bytes_up_to bs k < 2 ^ (8 * suc k)
+unfolding bytes_up_to
+bytes_up_to_lt bs fits zero = fits 0
+bytes_up_to_lt bs fits (suc k) =
+    let e : 8 * suc (suc k) ≡ 8 * suc k + 8 = omega arith in
+    let last = fits (suc k) in
+    let most : get_or bs (suc k) 0 * 256 ^ suc k ≤ 255 * 256 ^ suc k = mul-le-mul_right (256 ^ suc k) (omega arith) in
+    omega (arith, pow_of_byte (suc k), ap (λ (x : ℕ). 2 ^ x) e, pow-add 2 (8 * suc k) 8, bytes_up_to_lt bs fits k)
+
+ones_up_to : (bs : List ℕ) (fits : (i : ℕ) → get_or bs i 0 < 256) (k : ℕ) → k < length bs → ones (bytes_up_to bs k) ≡ sum_by ones (take (suc k) bs)
+unfolding bytes_up_to
+ones_up_to bs fits zero h = omega (arith, sum_by_more ones bs 0 0 h)
+ones_up_to bs fits (suc k) h =
+    let low = bytes_up_to_lt bs fits k in
+    let s : bytes_up_to bs k + get_or bs (suc k) 0 * 256 ^ suc k ≡ get_or bs (suc k) 0 * 2 ^ (8 * suc k) + bytes_up_to bs k =
+    omega (arith, ap (λ (x : ℕ). get_or bs (suc k) 0 * x) (pow_of_byte (suc k))) in
     omega (
       arith,
       ap ones s,
-      ones_cat 8 ((((((h * 2 ^ 8 + g) * 2 ^ 8 + f) * 2 ^ 8 + e) * 2 ^ 8 + d) * 2 ^ 8 + c) * 2 ^ 8 + b) a la,
-      ones_cat 8 (((((h * 2 ^ 8 + g) * 2 ^ 8 + f) * 2 ^ 8 + e) * 2 ^ 8 + d) * 2 ^ 8 + c) b lb,
-      ones_cat 8 ((((h * 2 ^ 8 + g) * 2 ^ 8 + f) * 2 ^ 8 + e) * 2 ^ 8 + d) c lc,
-      ones_cat 8 (((h * 2 ^ 8 + g) * 2 ^ 8 + f) * 2 ^ 8 + e) d ld,
-      ones_cat 8 ((h * 2 ^ 8 + g) * 2 ^ 8 + f) e le,
-      ones_cat 8 (h * 2 ^ 8 + g) f lf,
-      ones_cat 8 h g lg,
+      ones_cat (8 * suc k) (get_or bs (suc k) 0) (bytes_up_to bs k) low,
+      sum_by_more ones bs (suc k) 0 h,
+      ap (λ (x : ℕ). sum_by ones (take x bs)) (add-one (suc k)),
+      ones_up_to bs fits k (omega arith),
     )
 
--- the sixty-four rows of the eight bytes from place p on, where r is their number
-pub valid_word : (xs : List ℕ) (p r : ℕ) → get_or xs p 0 < 256 → get_or xs (p + 1) 0 < 256 → get_or xs (p + 2) 0 < 256 → get_or xs (p + 3) 0 < 256
-    → get_or xs (p + 4) 0 < 256 → get_or xs (p + 5) 0 < 256 → get_or xs (p + 6) 0 < 256 → get_or xs (p + 7) 0 < 256
-    → r ≡ get_or xs p 0 + get_or xs (p + 1) 0 * 256 + get_or xs (p + 2) 0 * 65536 + get_or xs (p + 3) 0 * 16777216 + get_or xs (p + 4) 0 * 4294967296 + get_or xs (p + 5) 0 * 1099511627776 + get_or xs (p + 6) 0 * 281474976710656 + get_or xs (p + 7) 0 * 72057594037927936
-    → valid_in xs (8 * (p + 8)) ≡ valid_in xs (8 * p) + ones r
-valid_word xs p r h0 h1 h2 h3 h4 h5 h6 h7 e =
+pub ones_of_word : (bs : List ℕ) → length bs ≡ 8 → ((i : ℕ) → get_or bs i 0 < 256) → ones (from_le_bytes w64 bs) ≡ sum_by ones bs
+unfolding bytes_up_to
+ones_of_word bs size fits = ones_up_to bs fits 7 (omega arith) ∙ ap (sum_by ones) (take_all 8 bs (omega arith))
+
+-- a sum over the chunks at the front is the sum over what they cover
+pub sum_by_first_chunks : (f : ℕ → ℕ) (n k : ℕ) (xs : List ℕ) → sum_by (sum_by f) (first_chunks n k xs) ≡ sum_by f (take (k * n) xs)
+sum_by_first_chunks f n zero xs = let none : zero * n ≡ zero = omega arith in ap (λ (x : ℕ). sum_by f (take x xs)) (sym none)
+sum_by_first_chunks f n (suc k) xs =
+    let size : suc k * n ≡ n + k * n = omega arith in
+    let front : take n (take (n + k * n) xs) ≡ take n xs = take-take n (n + k * n) xs (omega arith) in
     omega (
       arith,
-      ap ones e,
-      ones_word (get_or xs p 0) (get_or xs (p + 1) 0) (get_or xs (p + 2) 0) (get_or xs (p + 3) 0) (get_or xs (p + 4) 0) (get_or xs (p + 5) 0) (get_or xs (p + 6) 0) (get_or xs (p + 7) 0) h0 h1 h2 h3 h4 h5 h6,
-      valid_byte xs p (p + 1) refl h0,
-      valid_byte xs (p + 1) (p + 2) (omega arith) h1,
-      valid_byte xs (p + 2) (p + 3) (omega arith) h2,
-      valid_byte xs (p + 3) (p + 4) (omega arith) h3,
-      valid_byte xs (p + 4) (p + 5) (omega arith) h4,
-      valid_byte xs (p + 5) (p + 6) (omega arith) h5,
-      valid_byte xs (p + 6) (p + 7) (omega arith) h6,
-      valid_byte xs (p + 7) (p + 8) (omega arith) h7,
+      sum_by-cons (sum_by f) (take n xs) (first_chunks n k (drop n xs)),
+      sum_by_first_chunks f n k (drop n xs),
+      ap (λ (x : ℕ). sum_by f (take x xs)) size,
+      ap (sum_by f) (take-append-drop n (take (n + k * n) xs)),
+      sum_by-append f (take n (take (n + k * n) xs)) (drop n (take (n + k * n) xs)),
+      ap (sum_by f) front,
+      ap (sum_by f) (drop-take n (k * n) xs),
+    )
+
+-- the rows of bytes, most of which are taken eight at a time; they are at most all rows
+pub words_and_rest : (xs rest : List ℕ) (words : List (List ℕ)) → words ≡ first_chunks 8 (length xs / 8) xs → rest ≡ drop (length xs / 8 * 8) xs → ((i : ℕ) → get_or xs i 0 < 256)
+    → (valid_in xs (8 * length xs) ≡ sum_by (sum_by ones) words + sum_by ones rest) × (valid_in xs (8 * length xs) ≤ 8 * length xs)
+words_and_rest xs rest words front back fits =
+    let all = valid_bytes xs (length xs) (omega arith) fits in (
+      omega (
+        arith,
+        ap (sum_by ones) (take_all (length xs) xs (omega arith)),
+        ap (sum_by (sum_by ones)) front,
+        ap (sum_by ones) back,
+        sum_by_first_chunks ones 8 (length xs / 8) xs,
+        sum_by-take-drop ones xs (length xs / 8 * 8),
+      ),
+      valid_in_le xs (8 * length xs),
     )

@@ -1,6 +1,6 @@
 -- A buffer that is filled byte by byte from its start, and the map that stands in it at the end.
-use Rattle.std.proofs.Common.{◌≡◌, ℕ, ◌+◌, ◌-◌, ◌*◌, ◌/◌, ◌%◌, ◌^◌, ◌<◌, min, Bool, eqb, List, [], ◌∷◌, ◌++◌, map, length, get_or, drop, set, sym, ap, ◌∙◌, arith}
-use Rattle.std.proofs.lemmas.List.{append_assoc, drop_more, get_or_append_left, set_at}
+use Rattle.std.proofs.Common.{◌≡◌, ℕ, ◌+◌, ◌-◌, ◌*◌, ◌/◌, ◌%◌, ◌^◌, ◌<◌, ◌≤◌, min, Bool, eqb, List, [], ◌∷◌, ◌++◌, map, length, get_or, take, drop, set, sym, ap, ◌∙◌, arith}
+use Rattle.std.proofs.lemmas.List.{append-nil, append_assoc, drop_all, drop_more, get_or_append_left, length-take-le, set_at}
 use Rattle.std.proofs.lemmas.List.FromFn.{get_or-map-range_with_len, length-map-range_with_len, map-range_with_len_more}
 use Rattle.std.specs.List.{range_with_len}
 use Rattle.bitmap.specs.Bits.{bytes_for, packed, valid_at}
@@ -28,6 +28,13 @@ filled_more f rows n byte before out h e b =
     ∙ ap (λ (x : ℕ). front f rows n ++ x ∷ drop (n + 1) before) b
     ∙ sym (append_assoc (front f rows n) (byte_of f rows n ∷ []) (drop (n + 1) before))
     ∙ ap (λ (x : List ℕ). x ++ drop (n + 1) before) (sym (map-range_with_len_more (byte_of f rows) 0 n n (omega arith)))
+
+-- a front that is filled, beside the rest of the buffer
+pub filled_front : (f : ℕ → Bool) (rows k n : ℕ) (before items : List ℕ) → n ≤ length before → k ≡ n → items ≡ filled f rows k (take n before) → items ++ drop n before ≡ filled f rows n before
+filled_front f rows k n before items h all e =
+    let none : drop n (take n before) ≡ [] = drop_all n (take n before) (omega (arith, length-take-le n before h)) in
+    ap (λ (x : List ℕ). x ++ drop n before)
+    (e ∙ ap (λ (x : ℕ). filled f rows x (take n before)) all ∙ ap (λ (x : List ℕ). front f rows n ++ x) none ∙ append-nil (front f rows n))
 
 -- a buffer that is filled with all bytes of a map holds the map
 pub filled_all : (f : ℕ → Bool) (rows n : ℕ) (before after : List ℕ) → n ≡ bytes_for rows → after ≡ filled f rows n before → MapWritten f rows before after

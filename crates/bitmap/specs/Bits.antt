@@ -1,6 +1,6 @@
 -- A validity map over bytes, as Arrow's columnar format has it: eight rows to a byte, the first of them in the lowest bit,
 -- and a row's bit is set where the row is valid.
-use Rattle.std.specs.Prelude.{ℕ, zero, suc, ◌+◌, ◌-◌, ◌*◌, ◌/◌, ◌%◌, ◌^◌, min, Bool, cond, List, map, ◌==◌, slice_index}
+use Rattle.std.specs.Prelude.{ℕ, zero, suc, ◌+◌, ◌-◌, ◌*◌, ◌/◌, ◌%◌, ◌^◌, min, Bool, if◌then◌else◌, List, map, ◌==◌, slice_index}
 use Rattle.std.specs.List.{range_with_len}
 
 -- the bytes that a map of so many rows takes
@@ -14,7 +14,7 @@ valid_at bytes i = slice_index bytes (i / 8) / 2 ^ (i % 8) % 2 == 1
 -- the number whose bits are f start, f (start + 1), .. , so many of them, lowest first
 abbrev pub packed : (ℕ → Bool) → ℕ → ℕ → ℕ
 packed f start zero = 0
-packed f start (suc n) = packed f start n + cond (f (start + n)) (2 ^ n) 0
+packed f start (suc n) = packed f start n + (if f (start + n) then 2 ^ n else 0)
 
 -- the bytes of the map of so many rows, of which f says which are valid; bits past the last row are clear
 abbrev pub map_of : (ℕ → Bool) → ℕ → List ℕ

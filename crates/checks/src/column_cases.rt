@@ -1,5 +1,5 @@
 // Batches and list columns: Arrow's worked example, parts to merge as they stand, and each refusal in its order.
-use columns::{Cell, CellParts, Cells, ColumnParts, ListColumn, Part};
+use columns::{CellParts, Cells, ColumnParts, ListColumn, Part};
 use refusals::Refusal;
 use std::process::Abort;
 use std::test::Fail;
@@ -35,28 +35,29 @@ fn column<'a>(
 fn same_cues(rt: &impl Abort, part: &Part<i8>, cues: &[i8]) {
     assert_eq!(rt; part.len(), cues.len());
     for (i, cue) in cues.iter().enumerate() {
-        assert_eq!(rt; part.cell(i), Ok(Cell::Cue(*cue)));
+        assert_eq!(rt; part.cell(i), Ok(Some(*cue)));
     }
     assert_eq!(rt; part.cell(cues.len()), Err(Refusal::IndexOutOfRange));
 }
 
 #[test]
-fn batches_are_read_into_cells(rt: HostRuntime) {
-    let read = Cells::new(CellParts {
+fn batches_are_read_into_cells(rt: HostRuntime) -> Result<(), Fail> {
+    let cells = Cells::new(CellParts {
         rows: 3,
         map: &[0b101],
         cues: &[4, 5, 6],
-    });
-    assert_eq!(rt; read.outcome, Ok(()));
-    assert_eq!(rt; read.value.len(), 3);
-    assert_eq!(rt; read.value.cell(0), Ok(Cell::Cue(4)));
-    assert_eq!(rt; read.value.cell(1), Ok(Cell::Null));
-    assert_eq!(rt; read.value.cell(2), Ok(Cell::Cue(6)));
-    assert_eq!(rt; read.value.cell(3), Err(Refusal::IndexOutOfRange));
+    })?;
+    assert_eq!(rt; cells.len(), 3);
+    assert_eq!(rt; cells.cell(0), Ok(Some(4)));
+    assert_eq!(rt; cells.cell(1), Ok(None));
+    assert_eq!(rt; cells.cell(2), Ok(Some(6)));
+    assert_eq!(rt; cells.cell(3), Err(Refusal::IndexOutOfRange));
+    Ok(())
 }
 
-fn batch_outcome<'a>(rows: usize, map: &'a [u8], cues: &'a [i8]) -> Result<(), Refusal> {
-    Cells::new(CellParts { rows, map, cues }).outcome
+fn batch_outcome(rows: usize, map: &[u8], cues: &[i8]) -> Result<(), Refusal> {
+    Cells::new(CellParts { rows, map, cues })?;
+    Ok(())
 }
 
 #[test]
@@ -77,22 +78,18 @@ fn bad_batches_are_refused_in_order(rt: HostRuntime) {
 #[test]
 fn arrows_list_example_is_read(rt: HostRuntime) -> Result<(), Fail> {
     // the lists 12, -7, 25; null; 0, -127, 127, 50; and one that is empty
-    let read = ListColumn::new(column(4, &[0, 3, 3, 7, 7], &[0b1101], &SEVEN));
-    assert_eq!(rt; read.outcome, Ok(()));
-    assert_eq!(rt; read.value.rows(), 4);
-    let first = read.value.list(0)?.ok_or("row 0 is null")?;
+    let read = ListColumn::new(column(4, &[0, 3, 3, 7, 7], &[0b1101], &SEVEN))?;
+    assert_eq!(rt; read.rows(), 4);
+    let first = read.list(0)?.ok_or("row 0 is null")?;
     same_cues(&rt, &first, &SEVEN[0..3]);
-    assert!(rt; read.value.list(1)?.is_none());
-    let third = read.value.list(2)?.ok_or("row 2 is null")?;
+    assert!(rt; read.list(1)?.is_none());
+    let third = read.list(2)?.ok_or("row 2 is null")?;
     assert_eq!(rt; third.place, 3);
     same_cues(&rt, &third, &SEVEN[3..7]);
-    let last = read.value.list(3)?.ok_or("row 3 is null")?;
+    let last = read.list(3)?.ok_or("row 3 is null")?;
     assert_eq!(rt; last.len(), 0);
-    assert!(rt; read.value.list(4).is_err());
-    let part = read
-        .value
-        .get_optional_values_to_merge_as_is()
-        .ok_or("no part")?;
+    assert!(rt; read.list(4).is_err());
+    let part = read.get_optional_values_to_merge_as_is().ok_or("no part")?;
     assert_eq!(rt; part.place, 0);
     same_cues(&rt, &part, &SEVEN);
     Ok(())
@@ -101,15 +98,15 @@ fn arrows_list_example_is_read(rt: HostRuntime) -> Result<(), Fail> {
 #[test]
 fn a_part_is_given_where_no_null_row_covers_a_cell(rt: HostRuntime) -> Result<(), Fail> {
     // a null row in the middle covers nothing, and the column begins above zero
-    let read = ListColumn::new(column(3, &[2, 4, 4, 5], &[0b101], &FIVE)).value;
+    let read = ListColumn::new(column(3, &[2, 4, 4, 5], &[0b101], &FIVE))?;
     let part = read.get_optional_values_to_merge_as_is().ok_or("no part")?;
     assert_eq!(rt; part.place, 2);
     same_cues(&rt, &part, &FIVE[2..5]);
     // it covers two cells
-    let gap = ListColumn::new(column(3, &[0, 1, 3, 4], &[0b101], &FIVE)).value;
+    let gap = ListColumn::new(column(3, &[0, 1, 3, 4], &[0b101], &FIVE))?;
     assert!(rt; gap.get_optional_values_to_merge_as_is().is_none());
     // null rows at both ends cover cells, which are left out
-    let ends = ListColumn::new(column(3, &[0, 1, 3, 4], &[0b010], &FIVE)).value;
+    let ends = ListColumn::new(column(3, &[0, 1, 3, 4], &[0b010], &FIVE))?;
     let middle = ends.get_optional_values_to_merge_as_is().ok_or("no part")?;
     assert_eq!(rt; middle.place, 1);
     same_cues(&rt, &middle, &FIVE[1..3]);
@@ -118,11 +115,11 @@ fn a_part_is_given_where_no_null_row_covers_a_cell(rt: HostRuntime) -> Result<()
 
 #[test]
 fn parts_without_a_valid_row(rt: HostRuntime) -> Result<(), Fail> {
-    let nulls = ListColumn::new(column(2, &[1, 2, 4], &[0], &FIVE)).value;
+    let nulls = ListColumn::new(column(2, &[1, 2, 4], &[0], &FIVE))?;
     let part = nulls.get_optional_values_to_merge_as_is().ok_or("no part")?;
     assert_eq!(rt; part.place, 0);
     assert_eq!(rt; part.len(), 0);
-    let none = ListColumn::new(column(0, &[3], &[], &FIVE)).value;
+    let none = ListColumn::new(column(0, &[3], &[], &FIVE))?;
     let empty = none.get_optional_values_to_merge_as_is().ok_or("no part")?;
     assert_eq!(rt; empty.place, 3);
     assert_eq!(rt; empty.len(), 0);
@@ -141,12 +138,11 @@ fn nulls_among_the_cells_are_read(rt: HostRuntime) -> Result<(), Fail> {
         offsets: &[1, 3, 4],
         map: &[0b11],
         cells,
-    })
-    .value;
+    })?;
     let first = read.list(0)?.ok_or("row 0 is null")?;
     assert_eq!(rt; first.place, 1);
-    assert_eq!(rt; first.cell(0), Ok(Cell::Cue(2)));
-    assert_eq!(rt; first.cell(1), Ok(Cell::Null));
+    assert_eq!(rt; first.cell(0), Ok(Some(2)));
+    assert_eq!(rt; first.cell(1), Ok(None));
     Ok(())
 }
 
@@ -201,6 +197,6 @@ fn outcome<'a>(
         offsets,
         map,
         cells,
-    })
-    .outcome
+    })?;
+    Ok(())
 }

@@ -40,12 +40,11 @@ const FOUR_CUES: [i64; 4] = [-1, 7, i64::MIN, i64::MAX];
 #[test]
 fn rows_are_read_by_position(rt: HostRuntime) -> Result<(), Fail> {
     let bytes = bytes_of(rt.alloc(), 4, 3, &FOUR_WORDS, &FOUR_CUES)?;
-    let read = Sheet::new(bytes.as_slice());
-    assert_eq!(rt; read.outcome, Ok(()));
-    assert_eq!(rt; read.value.rows(), 4);
-    assert_eq!(rt; read.value.modules(), 3);
+    let sheet = Sheet::new(bytes.as_slice())?;
+    assert_eq!(rt; sheet.rows(), 4);
+    assert_eq!(rt; sheet.modules(), 3);
     assert_eq!(rt;
-        read.value.row(0),
+        sheet.row(0),
         Ok(Row {
             group: 1,
             null: false,
@@ -54,7 +53,7 @@ fn rows_are_read_by_position(rt: HostRuntime) -> Result<(), Fail> {
         })
     );
     assert_eq!(rt;
-        read.value.row(1),
+        sheet.row(1),
         Ok(Row {
             group: 2,
             null: true,
@@ -63,7 +62,7 @@ fn rows_are_read_by_position(rt: HostRuntime) -> Result<(), Fail> {
         })
     );
     assert_eq!(rt;
-        read.value.row(2),
+        sheet.row(2),
         Ok(Row {
             group: 0,
             null: false,
@@ -72,7 +71,7 @@ fn rows_are_read_by_position(rt: HostRuntime) -> Result<(), Fail> {
         })
     );
     assert_eq!(rt;
-        read.value.row(3),
+        sheet.row(3),
         Ok(Row {
             group: 1,
             null: true,
@@ -80,9 +79,9 @@ fn rows_are_read_by_position(rt: HostRuntime) -> Result<(), Fail> {
             cue: i64::MAX,
         })
     );
-    assert_eq!(rt; read.value.row(4), Err(Refusal::IndexOutOfRange));
+    assert_eq!(rt; sheet.row(4), Err(Refusal::IndexOutOfRange));
     assert_eq!(rt;
-        read.value.summary(),
+        sheet.summary(),
         Summary {
             rows: 4,
             modules: 3,
@@ -124,9 +123,9 @@ fn smallest_and_largest_sheets_are_read(rt: HostRuntime) -> Result<(), Fail> {
 #[test]
 fn lengths_that_do_not_fit_are_refused(rt: HostRuntime) -> Result<(), Fail> {
     let bytes = bytes_of(rt.alloc(), 4, 3, &FOUR_WORDS, &FOUR_CUES)?;
-    let short = bytes.as_slice();
-    for n in 0..short.len() {
-        assert_eq!(rt; summarize(&short[0..n]), Err(Refusal::SheetLength));
+    let whole = bytes.as_slice();
+    for n in 0..whole.len() {
+        assert_eq!(rt; summarize(&whole[..n]), Err(Refusal::SheetLength));
     }
     let mut long = bytes_of(rt.alloc(), 4, 3, &FOUR_WORDS, &FOUR_CUES)?;
     long.push(0)?;

@@ -1,7 +1,7 @@
 // A kind of cue for checks: its equality is coarser than that of its bits, so that nothing above leans on more than the laws.
 #![tactic(auto)]
 
-ghost use Rattle.std.specs.Prelude.{◌/◌, ◌==◌};
+ghost use Rattle.std.specs.Prelude.{◌≡◌, ◌/◌, ◌==◌};
 ghost use Rattle.kinds.specs.Orders.{order_n};
 ghost use Rattle.std.proofs.Common.{rules};
 
@@ -11,6 +11,14 @@ use std::cmp::Ordering;
 #[derive(Clone, Copy, Debug)]
 pub struct Coarse {
     pub value: u32,
+}
+
+impl Coarse {
+    fn half(&self) -> u32
+        ensures { result ≡ self.now.value / 2 }
+    {
+        self.value / 2
+    }
 }
 
 // Of two neighbours, 2n and 2n + 1, each is as good as the other.
@@ -34,11 +42,11 @@ impl Keyed for Coarse {
     }
 
     fn equal(&self, other: &Coarse) -> bool {
-        self.value / 2 == other.value / 2
+        self.half() == other.half()
     }
 
     fn hash(&self) -> u64 {
-        (self.value / 2) as u64
+        u64::from(self.half())
     }
 }
 
@@ -54,6 +62,6 @@ impl Ordered for Coarse {
     ghost chain = { Prim.search rules };
 
     fn compare(&self, other: &Coarse) -> Ordering {
-        (self.value / 2).cmp(&(other.value / 2))
+        self.half().cmp(&other.half())
     }
 }

@@ -1,11 +1,10 @@
 -- The part that can be merged as it stands is the valid lists' cells, joined in order.
-use Rattle.std.proofs.Common.{◌≡◌, ℕ, zero, suc, ◌+◌, ◌-◌, ◌<◌, ◌≤◌, Bool, true, false, cond, ltb, ◌⊎◌, List, [], ◌∷◌, ◌++◌, take, drop, ℤ, sym, refl, ap, ◌∙◌, inl, inr, ⊎_elim, add-one, arith}
+use Rattle.std.proofs.Common.{◌≡◌, ℕ, zero, suc, ◌+◌, ◌-◌, ◌<◌, ◌≤◌, Bool, true, false, cond, ltb, ◌⊎◌, List, [], ◌∷◌, ◌++◌, take, drop, ℤ, sym, refl, ap, ◌∙◌, inl, inr, ⊎_elim, add-one, arith, Option}
 use Rattle.std.specs.List.{between}
 use Rattle.std.proofs.lemmas.List.Edits.{between_none}
 use Rattle.std.proofs.lemmas.List.{append-nil, drop-drop}
 use Rattle.std.proofs.lemmas.Bool.{both_ways, cases_Bool, cases_eq, cases_lt, lt-ltb, le-ltb, and_from, and_left, and_right, or_left, or_right, or_from, not_from_true, not_from_false, cond-true, cond-false}
 use Rattle.std.proofs.lemmas.Bool.Decides.{nat_tests}
-use Rattle.columns.specs.declared.cell.Cell.{Cell}
 use Rattle.columns.specs.Merging.{Gap, first_valid, past_valid, valid_cells, whole, all_whole_from}
 use Rattle.columns.specs.Offsets.{GoodOffsets, start_of}
 use Rattle.columns.proofs.Rules.{start_rises}
@@ -107,7 +106,7 @@ between_join {X} a b c xs h l =
     ap (λ (ys : List X). between a b xs ++ take (c - b) ys) (sym (drop-drop (b - a) a xs ∙ ap (λ (k : ℕ). drop k xs) e))
     ∙ take_join (b - a) (c - b) (drop a xs) ∙ ap (λ (k : ℕ). take k (drop a xs)) s
 
-module _ {K : Type 0} (valid : ℕ → Bool) (offsets : List ℤ) (cells : List (Cell K)) where
+module _ {K : Type 0} (valid : ℕ → Bool) (offsets : List ℤ) (cells : List (Option K)) where
   pub valid_none : (n : ℕ) → ((k : ℕ) → k < n → valid k ≡ false) → valid_cells valid offsets cells n ≡ []
   valid_none zero h = refl
   valid_none (suc n) h =

@@ -6,7 +6,6 @@ use Rattle.refusals.specs.declared.Refusal.TheVariants.{TooManyRows, CountsDiffe
 use Rattle.refusals.specs.Checks.{Checks}
 use Rattle.bitmap.specs.Bits.{bytes_for, valid_at}
 use Rattle.bitmap.specs.Maps.{row_count, row_valid}
-use Rattle.columns.specs.declared.cell.Cell.{Cell}
 use Rattle.columns.specs.declared.cells.Cells.{Cells}
 use Rattle.columns.specs.declared.column.ColumnParts.{ColumnParts}
 use Rattle.columns.specs.declared.column.ListColumn.{ListColumn}
@@ -15,14 +14,14 @@ use Rattle.columns.specs.Cells.{cells_from, passed_cells}
 use Rattle.columns.specs.Offsets.{GoodOffsets, offsets_keep, start_of}
 
 -- the cells, in their order
-abbrev pub cells_in : {K : Type 0} → Cells K → List (Cell K)
+abbrev pub cells_in : {K : Type 0} → Cells K → List (Option K)
 cells_in c = cells_from (row_valid c.map) 0 c.cues.now
 
 abbrev pub cell_row_checks : {K : Type 0} → Cells K → ℕ → Checks
 cell_row_checks c i = (nat_le (length c.cues.now) i, IndexOutOfRange) ∷ []
 
 -- the cells of a part: its place is the row of its first cue
-abbrev pub part_cells : {K : Type 0} → Part K → List (Cell K)
+abbrev pub part_cells : {K : Type 0} → Part K → List (Option K)
 part_cells p = cells_from (valid_at p.map.now) p.place p.cues.now
 
 abbrev pub part_row_checks : {K : Type 0} → Part K → ℕ → Checks
@@ -47,18 +46,18 @@ column_checks p =
 
 -- row i of a column with these offsets over these cells, where valid says which rows are valid: null, or the cells that it
 -- covers
-abbrev pub list_in : {K : Type 0} → (ℕ → Bool) → List ℤ → List (Cell K) → ℕ → Option (List (Cell K))
+abbrev pub list_in : {K : Type 0} → (ℕ → Bool) → List ℤ → List (Option K) → ℕ → Option (List (Option K))
 list_in valid offsets cells i = cond (valid i) (Some (between (start_of offsets i) (start_of offsets (i + 1)) cells)) None
 
 -- the lists that a caller passes
-abbrev pub passed_list : {K : Type 0} → ColumnParts K → ℕ → Option (List (Cell K))
+abbrev pub passed_list : {K : Type 0} → ColumnParts K → ℕ → Option (List (Option K))
 passed_list p = list_in (valid_at p.map.now) p.offsets.now (passed_cells p.cells)
 
 abbrev pub column_rows : {K : Type 0} → ListColumn K → ℕ
 column_rows c = row_count c.map
 
 -- row i of a column that was read
-abbrev pub list_at : {K : Type 0} → ListColumn K → ℕ → Option (List (Cell K))
+abbrev pub list_at : {K : Type 0} → ListColumn K → ℕ → Option (List (Option K))
 list_at c = list_in (row_valid c.map) c.offsets.now (cells_in c.cells)
 
 abbrev pub column_row_checks : {K : Type 0} → ListColumn K → ℕ → Checks
@@ -71,7 +70,7 @@ pub record PartOf {K : Type 0} (c : ListColumn K) (from to : ℕ) (p : Part K) :
   pub cells : part_cells p ≡ between from to (cells_in c.cells)
 
 -- what is read of a row, as the cells of the part that it gives
-abbrev pub list_read : {K : Type 0} → Result (Option (Part K)) Refusal → Result (Option (List (Cell K))) Refusal
+abbrev pub list_read : {K : Type 0} → Result (Option (Part K)) Refusal → Result (Option (List (Option K))) Refusal
 list_read (Err e) = Err e
 list_read (Ok None) = Ok None
 list_read (Ok (Some p)) = Ok (Some (part_cells p))

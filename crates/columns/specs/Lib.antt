@@ -1,4 +1,3 @@
-pub mod CellKinds
 pub mod Cells
 pub mod Policies
 pub mod Offsets

@@ -2,18 +2,17 @@
 use Rattle.std.specs.Prelude.{◌≡◌, ℕ, zero, suc, ◌+◌, ◌<◌, ◌≤◌, Bool, true, false, cond, not, ◌&&◌, ◌||◌, ◌⊎◌, List, [], ◌++◌, ℤ, Some, None, Option, ◌==◌, nat_lt}
 use Rattle.std.specs.List.{between}
 use Rattle.bitmap.specs.Maps.{row_valid}
-use Rattle.columns.specs.declared.cell.Cell.{Cell}
 use Rattle.columns.specs.declared.column.ListColumn.{ListColumn}
 use Rattle.columns.specs.Columns.{cells_in, column_rows}
 use Rattle.columns.specs.Offsets.{start_of}
 
 -- the cells of the valid lists among the first n rows, joined in order
-abbrev pub valid_cells : {K : Type 0} → (ℕ → Bool) → List ℤ → List (Cell K) → ℕ → List (Cell K)
+abbrev pub valid_cells : {K : Type 0} → (ℕ → Bool) → List ℤ → List (Option K) → ℕ → List (Option K)
 valid_cells valid offsets cells zero = []
 valid_cells valid offsets cells (suc n) = valid_cells valid offsets cells n ++ cond (valid n) (between (start_of offsets n) (start_of offsets (n + 1)) cells) []
 
 -- the cells of all valid lists of a column, joined in order
-abbrev pub merged_cells : {K : Type 0} → ListColumn K → List (Cell K)
+abbrev pub merged_cells : {K : Type 0} → ListColumn K → List (Option K)
 merged_cells c = valid_cells (row_valid c.map) c.offsets.now (cells_in c.cells) (column_rows c)
 
 -- a null row that stands between two valid ones covers a cell

@@ -3,8 +3,6 @@
 
 mod as_is;
 mod batches;
-mod cell;
-mod cell_kind;
 mod cells;
 mod column;
 mod lists;
@@ -13,9 +11,9 @@ mod offset;
 mod parts;
 mod policy;
 
-pub use cell::Cell;
 pub use cells::{CellParts, Cells};
 pub use column::{ColumnParts, ListColumn, Part};
+pub use policy::passes;
 
 // The most rows that a batch or a list column may have.
 pub const MAX_ROWS: usize = 65_536;

@@ -2,16 +2,9 @@
 ghost use Rattle.std.specs.Prelude.{◌≡◌};
 ghost use Rattle.columns.specs.Policies.{passes};
 
-use crate::Cell;
-
-impl<K: Copy> Cell<K> {
-    // Whether the cell is let through.
-    pub fn passes(&self, ignore: bool) -> bool
-        ensures { result ≡ passes ignore self.now }
-    {
-        match self {
-            Cell::Null => !ignore,
-            Cell::Cue(_) => true,
-        }
-    }
+// Whether a cell is let through.
+pub fn passes<K: Copy>(ignore: bool, cell: &Option<K>) -> bool
+    ensures { result ≡ passes ignore cell.now }
+{
+    !ignore || cell.is_some()
 }

@@ -1,11 +1,9 @@
 // Validity maps that are cleared first and then set bit by bit.
-ghost use Rattle.std.specs.Prelude.{◌≡◌, ◌/◌, ◌<◌, ◌≤◌, true, not, ◌++◌, length, drop, replicate, slice_set};
+ghost use Rattle.std.specs.Prelude.{◌≡◌, ◌/◌, ◌<◌, ◌≤◌, true, not, ◌++◌, length, drop, replicate, slice_set, is_none};
 ghost use Rattle.bitmap.specs.Bits.{bytes_for};
-ghost use Rattle.records.specs.Batches.{is_null};
 ghost use Rattle.records.specs.Lists.{cue_of};
 ghost use Rattle.emit.specs.Marks.{Marked};
 
-use columns::Cell;
 use kinds::Keyed;
 
 // Clears the bytes of the map of so many rows.
@@ -27,14 +25,14 @@ pub(crate) fn set_bit(map: &mut [u8], i: usize)
 }
 
 // Writes a cell at place p: its cue, or the blank for a null, and the mark of one that is not null.
-pub(crate) fn put_cell<K: Keyed>(cell: Cell<K>, p: usize, cues: &mut [K], cell_map: &mut [u8])
+pub(crate) fn put_cell<K: Keyed>(cell: Option<K>, p: usize, cues: &mut [K], cell_map: &mut [u8])
     requires { (p < length cues.old) × (p / 8 < length cell_map.old) }
     ensures cues { cues.new ≡ slice_set cues.old p (cue_of K.Keyed.empty cell) }
-    ensures marks { Marked (not (is_null cell)) p cell_map.old cell_map.new }
+    ensures marks { Marked (not (is_none cell)) p cell_map.old cell_map.new }
 {
     match cell {
-        Cell::Null => cues[p] = K::blank(),
-        Cell::Cue(cue) => {
+        None => cues[p] = K::blank(),
+        Some(cue) => {
             cues[p] = cue;
             set_bit(cell_map, p);
         }

@@ -5,3 +5,4 @@ pub mod TextBytes
 pub mod Hashes
 pub mod PatternsLemmas
 pub mod TextsLemmas
+pub mod CellKinds

@@ -1,5 +1,5 @@
 -- What a comparison answers, as a number, and the order of numbers.
-use Rattle.std.specs.Prelude.{ℕ, Bool, cond, ◌&&◌, ℤ, pos, negsuc, int_le, int_lt, nat_lt}
+use Rattle.std.specs.Prelude.{ℕ, Bool, if◌then◌else◌, ◌&&◌, ℤ, pos, negsuc, int_le, int_lt, nat_lt}
 use Rattle.std.specs.declared.cmp.Ordering.TheVariants.{Less, Equal, Greater}
 use Rattle.std.specs.declared.cmp.Ordering.{Ordering}
 
@@ -11,10 +11,10 @@ sign Greater = pos 1
 
 -- by number, the lower one first
 abbrev pub order_n : ℕ → ℕ → Ordering
-order_n a b = cond (nat_lt a b) Less (cond (nat_lt b a) Greater Equal)
+order_n a b = if nat_lt a b then Less else if nat_lt b a then Greater else Equal
 
 abbrev pub order_z : ℤ → ℤ → Ordering
-order_z a b = cond (int_lt a b) Less (cond (int_lt b a) Greater Equal)
+order_z a b = if int_lt a b then Less else if int_lt b a then Greater else Equal
 
 abbrev pub same_z : ℤ → ℤ → Bool
 same_z a b = int_le a b && int_le b a

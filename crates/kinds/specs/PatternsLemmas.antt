@@ -1,5 +1,5 @@
 -- The order of patterns is that of numbers: a pattern that is not negative stands for itself, a negative one below all those.
-use Rattle.std.specs.Prelude.{◌≡◌, ℕ, ◌/◌, ◌%◌, ◌^◌, ◌<◌, true, cond, ℤ, pos, negsuc, ◌≤ℤ◌, ◌==◌}
+use Rattle.std.specs.Prelude.{◌≡◌, ℕ, ◌/◌, ◌%◌, ◌^◌, ◌<◌, true, if◌then◌else◌, ℤ, pos, negsuc, ◌≤ℤ◌, ◌==◌}
 use Rattle.std.specs.declared.cmp.Ordering.{Ordering}
 use Rattle.std.proofs.Common.{sym, ap, ◌∙◌, arith}
 use Rattle.std.specs.Ordering.{MatchOrdering}
@@ -9,10 +9,10 @@ use Rattle.kinds.specs.Orders.{order_n, order_z, sign}
 use Rattle.kinds.specs.Patterns.{negative, below_sign, ranked, total_order}
 
 abbrev standing_of : ℕ → ℤ
-standing_of bits = cond (negative bits) (negsuc bits) (pos bits)
+standing_of bits = if negative bits then negsuc bits else pos bits
 
 -- the number above the lowest 52 bits decides, and under one such number those bits do
-by_fields : (m n : ℕ) → cond (m / 2 ^ 52 == n / 2 ^ 52) (order_n (m % 2 ^ 52) (n % 2 ^ 52)) (order_n (m / 2 ^ 52) (n / 2 ^ 52)) ≡ order_n m n
+by_fields : (m n : ℕ) → (if m / 2 ^ 52 == n / 2 ^ 52 then order_n (m % 2 ^ 52) (n % 2 ^ 52) else order_n (m / 2 ^ 52) (n / 2 ^ 52)) ≡ order_n m n
 by_fields m n = grind (arith, nat_tests)
 
 total_is : (a b : ℕ) → total_order a b ≡ order_z (standing_of a) (standing_of b)

@@ -1,5 +1,5 @@
 -- The equality and the order of texts, over their bytes.
-use Rattle.std.specs.Prelude.{ℕ, Bool, true, false, cond, ◌&&◌, List, [], ◌∷◌, ◌==◌, nat_lt}
+use Rattle.std.specs.Prelude.{ℕ, Bool, true, false, if◌then◌else◌, ◌&&◌, List, [], ◌∷◌, ◌==◌, nat_lt}
 use Rattle.std.specs.declared.cmp.Ordering.TheVariants.{Less, Equal, Greater}
 use Rattle.std.specs.declared.cmp.Ordering.{Ordering}
 
@@ -14,4 +14,4 @@ abbrev pub order_bytes : List ℕ → List ℕ → Ordering
 order_bytes [] [] = Equal
 order_bytes [] (y ∷ ys) = Less
 order_bytes (x ∷ xs) [] = Greater
-order_bytes (x ∷ xs) (y ∷ ys) = cond (nat_lt x y) Less (cond (nat_lt y x) Greater (order_bytes xs ys))
+order_bytes (x ∷ xs) (y ∷ ys) = if nat_lt x y then Less else if nat_lt y x then Greater else order_bytes xs ys

@@ -1,6 +1,6 @@
 -- The laws of the texts' equality and order, over any bytes.
-use Rattle.std.specs.Prelude.{◌≡◌, ℕ, true, List, [], ◌∷◌, pos, neg_ℤ, ◌≤ℤ◌, Decides, refl}
-use Rattle.std.proofs.Common.{sym, subst, arith, rules}
+use Rattle.std.specs.Prelude.{◌≡◌, ℕ, true, List, [], ◌∷◌, pos, neg_ℤ, ◌≤ℤ◌, ◌↔◌, IsTrue, refl}
+use Rattle.std.proofs.Common.{sym, ◌∙◌, arith, rules}
 use Rattle.std.specs.Cmp.Lexicographic.{slice_cmp}
 use Rattle.std.specs.Ordering.{nat_cmp}
 use Rattle.std.proofs.lemmas.Slice.Eq.{compares_Decides}
@@ -8,18 +8,24 @@ use Rattle.std.proofs.lemmas.Bool.Decides.{nat_tests, same_from_decides, Decides
 use Rattle.kinds.specs.Orders.{sign}
 use Rattle.kinds.specs.Texts.{order_bytes, same_bytes}
 
-pub same_decides : (xs ys : List ℕ) → Decides (same_bytes xs ys) (xs ≡ ys)
+pub same_decides : (xs ys : List ℕ) → IsTrue (same_bytes xs ys) ↔ (xs ≡ ys)
 same_decides = compares_Decides same_bytes (search rules)
+
+pub same_self : (xs : List ℕ) → same_bytes xs xs ≡ true
+same_self xs = (same_decides xs xs).1 refl
 
 pub same_swap : (xs ys : List ℕ) → same_bytes xs ys ≡ same_bytes ys xs
 same_swap xs ys = same_from_decides _ _ (same_decides xs ys) (Decides-like (same_bytes ys xs) sym sym (same_decides ys xs))
+
+pub same_chain : (xs ys zs : List ℕ) → same_bytes xs ys ≡ true → same_bytes ys zs ≡ true → same_bytes xs zs ≡ true
+same_chain xs ys zs h k = (same_decides xs zs).1 ((same_decides xs ys).0 h ∙ (same_decides ys zs).0 k)
 
 order_self : (xs : List ℕ) → sign (order_bytes xs xs) ≡ pos 0
 order_self [] = refl
 order_self (x ∷ xs) = let t = order_self xs in grind (arith, nat_tests)
 
 pub order_zero : (xs ys : List ℕ) → same_bytes xs ys ≡ true → sign (order_bytes xs ys) ≡ pos 0
-order_zero xs ys h = subst (λ zs. sign (order_bytes xs zs) ≡ pos 0) ((same_decides xs ys).0 h) (order_self xs)
+order_zero xs ys h = rw (← (same_decides xs ys).0 h) (order_self xs)
 
 pub order_same : (xs ys : List ℕ) → sign (order_bytes xs ys) ≡ pos 0 → same_bytes xs ys ≡ true
 order_same [] [] h = refl

@@ -4,6 +4,7 @@ ghost use Rattle.kinds.specs.Hashes.{mixed};
 
 const ODD: u64 = 0x9e37_79b9_7f4a_7c15;
 
+#[tactic(auto, unfolding(crate::specs::Hashes::mixed))]
 pub fn mix(n: u64) -> u64
     ensures { result ≡ mixed n }
 {

@@ -1,6 +1,7 @@
 // Kinds of cue: what can be told equal and hashed, and what can be put in order.
 #![tactic(auto)]
 
+mod cell;
 mod hash;
 mod pattern;
 mod text;

@@ -1,4 +1,4 @@
-// A pattern cue: a 64-bit float as its bits, in the total order of IEEE 754.
+// A pattern cue: a 64-bit float as its bits, in the total order of IEEE 754, which is not that of the bits as a number.
 ghost use Rattle.std.specs.Prelude.{◌≡◌, ◌==◌};
 ghost use Rattle.kinds.specs.Hashes.{mixed};
 ghost use Rattle.kinds.specs.Patterns.{ranked, total_order};
@@ -43,7 +43,7 @@ impl Keyed for Pattern {
     }
 
     fn equal(&self, other: &Pattern) -> bool {
-        self.bits == other.bits
+        self == other
     }
 
     fn hash(&self) -> u64 {

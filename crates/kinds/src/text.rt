@@ -2,7 +2,7 @@
 ghost use Rattle.std.specs.Prelude.{◌≡◌, ◌-◌, ◌≤◌, drop, replicate};
 
 // Spare bytes are zero, so that equal texts are the same value.
-#[derive(Clone, Copy, Debug)]
+#[derive(Clone, Copy, PartialEq, Eq, Debug)]
 pub struct Text {
     pub(crate) bytes: [u8; 16],
     pub(crate) len: usize,

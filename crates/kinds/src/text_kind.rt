@@ -1,11 +1,11 @@
 // Texts made of bytes and read, and the kind that they are.
-ghost use Rattle.std.specs.Prelude.{◌≡◌, ◌+◌, ◌<◌, ◌≤◌, length, replicate, Ok, Err, refl};
-ghost use Rattle.std.proofs.Common.{◌∙◌, ap, lit≤};
+ghost use Rattle.std.specs.Prelude.{◌≡◌, ◌≤◌, ◌↔◌, length, replicate, IsOk, IfOk, IsOkUnless, refl};
+ghost use Rattle.std.proofs.Common.{ap, lit≤};
 ghost use Rattle.refusals.specs.declared.Refusal.TheVariants.{TextTooLong};
-ghost use Rattle.kinds.specs.Hashes.{mixed_bytes, word_at};
+ghost use Rattle.kinds.specs.Hashes.{mixed_bytes};
 ghost use Rattle.kinds.specs.TextBytes.{text_of};
 ghost use Rattle.kinds.specs.Texts.{order_bytes, same_bytes};
-ghost use Rattle.kinds.specs.TextsLemmas.{same_decides, same_swap, order_same, order_zero, order_swap, order_chain};
+ghost use Rattle.kinds.specs.TextsLemmas.{same_decides, same_self, same_swap, same_chain, order_same, order_zero, order_swap, order_chain};
 
 use crate::hash::mix;
 use crate::text::Text;
@@ -18,15 +18,15 @@ pub const MAX_TEXT: usize = 16;
 
 impl Text {
     pub fn new(bytes: &[u8]) -> Result<Text, Refusal>
-        ensures { elim result [ Ok t ↦ (length bytes.now ≤ 16) × (text_of t ≡ bytes.now) | Err e ↦ (16 < length bytes.now) × (e ≡ TextTooLong) ] }
+        ensures fits { IsOk result ↔ (length bytes.now ≤ 16) }
+        ensures holds { IfOk result (λ t. text_of t ≡ bytes.now) }
+        ensures refusal { IsOkUnless result TextTooLong }
     {
         if bytes.len() > MAX_TEXT {
             return Err(Refusal::TextTooLong);
         }
         let mut padded = [0; 16];
-        for (i, byte) in bytes.iter().enumerate() {
-            padded[i] = *byte;
-        }
+        padded[..bytes.len()].copy_from_slice(bytes);
         Ok(Text {
             bytes: padded,
             len: bytes.len(),
@@ -40,23 +40,6 @@ impl Text {
     }
 }
 
-// The eight bytes from place p on as a number, lowest first.
-fn word(bytes: &[u8; 16], p: usize) -> u64
-    requires { p + 8 ≤ 16 }
-    ensures { result ≡ word_at bytes.now p }
-{
-    u64::from_le_bytes([
-        bytes[p],
-        bytes[p + 1],
-        bytes[p + 2],
-        bytes[p + 3],
-        bytes[p + 4],
-        bytes[p + 5],
-        bytes[p + 6],
-        bytes[p + 7],
-    ])
-}
-
 impl Keyed for Text {
     ghost empty = { record { bytes = replicate 16 0; len = 0; short = lit≤ tt; spare = refl } };
 
@@ -64,11 +47,11 @@ impl Keyed for Text {
 
     ghost hashed = { λ a. mixed_bytes (text_of a) };
 
-    ghost reflexive = { λ a. (same_decides (text_of a) (text_of a)).1 refl };
+    ghost reflexive = { λ a. same_self (text_of a) };
 
     ghost symmetric = { λ a b. same_swap (text_of a) (text_of b) };
 
-    ghost transitive = { λ a b c h k. (same_decides (text_of a) (text_of c)).1 ((same_decides (text_of a) (text_of b)).0 h ∙ (same_decides (text_of b) (text_of c)).0 k) };
+    ghost transitive = { λ a b c h k. same_chain (text_of a) (text_of b) (text_of c) h k };
 
     ghost hash_agrees = { λ a b h. ap mixed_bytes ((same_decides (text_of a) (text_of b)).0 h) };
 
@@ -79,13 +62,15 @@ impl Keyed for Text {
         }
     }
 
+    #[tactic(auto, using(crate::proofs::Padded::same_padded))]
     fn equal(&self, other: &Text) -> bool {
-        self.len == other.len && self.bytes == other.bytes
+        self == other
     }
 
     fn hash(&self) -> u64 {
-        let low = word(&self.bytes, 0);
-        let high = word(&self.bytes, 8);
+        let (words, _) = self.bytes.as_chunks::<8>();
+        let low = u64::from_le_bytes(words[0]);
+        let high = u64::from_le_bytes(words[1]);
         mix(low ^ mix(high ^ self.len as u64))
     }
 }
@@ -101,7 +86,8 @@ impl Ordered for Text {
 
     ghost chain = { λ a b c h k. order_chain (text_of a) (text_of b) (text_of c) h k };
 
+    #[tactic(auto, using(crate::specs::TextsLemmas::order_from_lex))]
     fn compare(&self, other: &Text) -> Ordering {
-        self.as_bytes().cmp(&other.as_bytes())
+        self.as_bytes().cmp(other.as_bytes())
     }
 }

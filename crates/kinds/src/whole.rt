@@ -9,7 +9,7 @@ use crate::hash::mix;
 use crate::{Keyed, Ordered};
 use std::cmp::Ordering;
 
-#[derive(Clone, Copy, PartialEq, Eq, Debug)]
+#[derive(Clone, Copy, PartialEq, Eq, PartialOrd, Ord, Debug)]
 pub struct Whole {
     pub value: i64,
 }
@@ -34,7 +34,7 @@ impl Keyed for Whole {
     }
 
     fn equal(&self, other: &Whole) -> bool {
-        self.value == other.value
+        self == other
     }
 
     fn hash(&self) -> u64 {
@@ -54,6 +54,6 @@ impl Ordered for Whole {
     ghost chain = { Prim.search rules };
 
     fn compare(&self, other: &Whole) -> Ordering {
-        self.value.cmp(&other.value)
+        self.cmp(other)
     }
 }

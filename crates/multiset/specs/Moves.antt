@@ -1,11 +1,12 @@
 -- What the moves of a multiset promise: `before` as a call begins, `after` as it ends.
-use Rattle.std.specs.Prelude.{◌≡◌, List, Bool, true, false, ℕ, length}
-use Rattle.columns.specs.declared.cell.Cell.{Cell}
+use Rattle.std.specs.Prelude.{◌≡◌, List, Bool, ℕ, length, Option, Result, MatchResult}
+use Rattle.refusals.specs.declared.Refusal.{Refusal}
+use Rattle.refusals.specs.declared.Refusal.TheVariants.{NoRoom, NotLive}
 use Rattle.rows.specs.declared.counted.Counted.{Counted}
 use Rattle.multiset.specs.Counts.{weigh, Live, OneMore}
 
 -- A multiset of type M: when it is in order, its entries, how many it has place for, and the relation by which a call moves it.
-module _ {K M : Type 0} (same : K → K → Bool) (whole : M → Type 0) (entries : M → List (Counted K)) (places : M → ℕ) (step : M → Cell K → M → Type 0) (cell : Cell K) (before after : M) where
+module _ {K M : Type 0} (same : K → K → Bool) (whole : M → Type 0) (entries : M → List (Counted K)) (places : M → ℕ) (step : M → Option K → M → Type 0) (cell : Option K) (before after : M) where
   -- one more of the cell was put in, by such a step
   pub record Added : Type 0 where
     pub kept : whole after
@@ -20,9 +21,8 @@ module _ {K M : Type 0} (same : K → K → Bool) (whole : M → Type 0) (entrie
     pub filled : length (entries before) ≡ places before
     pub absent : weigh same cell (entries before) ≡ 0
 
-  abbrev pub Adds : Bool → Type 0
-  Adds true = Added
-  Adds false = Full
+  abbrev pub Adds : Result (Unit {0}) Refusal → Type 0
+  Adds result = MatchResult result (λ done. Added) (λ refusal. (refusal ≡ NoRoom) × Full)
 
   -- one of the cell was taken off, by such a step; its entry stays, be its count zero
   pub record Lowered : Type 0 where
@@ -36,6 +36,5 @@ module _ {K M : Type 0} (same : K → K → Bool) (whole : M → Type 0) (entrie
     pub unaltered : after ≡ before
     pub absent : weigh same cell (entries before) ≡ 0
 
-  abbrev pub Lowers : Bool → Type 0
-  Lowers true = Lowered
-  Lowers false = Missing
+  abbrev pub Lowers : Result (Unit {0}) Refusal → Type 0
+  Lowers result = MatchResult result (λ done. Lowered) (λ refusal. (refusal ≡ NotLive) × Missing)

@@ -3,17 +3,16 @@
 // above.
 #![tactic(auto)]
 
-ghost use Rattle.std.specs.Prelude.{◌≡◌, List, ℕ, ◌^◌, ◌≤◌, ◌<◌, length, slice_index_or};
-ghost use Rattle.columns.specs.declared.cell.Cell.{Cell as Held};
-ghost use Rattle.columns.specs.declared.cell.Cell.TheVariants.{Null};
+ghost use Rattle.std.specs.Prelude.{◌≡◌, List, ℕ, ◌^◌, ◌≤◌, ◌<◌, length, slice_index_or, Option, None};
 ghost use Rattle.columns.specs.Columns.{part_cells};
 ghost use Rattle.columns.specs.Policies.{accepted};
 ghost use Rattle.rows.specs.declared.counted.Counted.{Counted};
 ghost use Rattle.multiset.specs.Counts.{Alike, Apart, Emptied, Live, cells_of, total};
 ghost use Rattle.multiset.specs.Moves.{Adds, Lowers};
 
-use columns::{Cell, Part};
+use columns::Part;
 use kinds::Keyed;
+use refusals::Refusal;
 
 // Every promise speaks of states that are in order and is silent of others, in which the calls are safe all the same.
 pub trait Multiset<K: Keyed> {
@@ -27,10 +26,10 @@ pub trait Multiset<K: Keyed> {
     ghost places: { Self → ℕ };
 
     // One state is another with one more of a cell.
-    ghost adding: { Self → Held K → Self → Type 0 };
+    ghost adding: { Self → Option K → Self → Type 0 };
 
     // One state is another with one of a cell taken off.
-    ghost lowering: { Self → Held K → Self → Type 0 };
+    ghost lowering: { Self → Option K → Self → Type 0 };
 
     // How many entries there are. No two have equal cells, and there is place for all.
     fn len(&self) -> usize
@@ -39,23 +38,23 @@ pub trait Multiset<K: Keyed> {
         ensures fits { whole self.now → result ≤ places self.now };
 
     // The cell of entry i; null past the entries.
-    fn cell(&self, i: usize) -> Cell<K>
-        ensures { result ≡ slice_index_or (cells_of (entries self.now)) i Null };
+    fn cell(&self, i: usize) -> Option<K>
+        ensures { result ≡ slice_index_or (cells_of (entries self.now)) i None };
 
-    // Puts in one more of a cell, unless it is a new one and there is no place for it.
-    fn add(&mut self, cell: Cell<K>) -> bool
+    // Puts in one more of a cell; refused where it is a new one and there is no place for it.
+    fn add(&mut self, cell: Option<K>) -> Result<(), Refusal>
         ensures { whole self.old → Live (entries self.old) → total (entries self.old) < 2 ^ 31 → Adds K.Keyed.same whole entries places adding cell self.old self.new result };
 
     // Undoes the adding of a cell, if nothing else was done since.
-    fn undo_add(&mut self, cell: Cell<K>)
+    fn undo_add(&mut self, cell: Option<K>)
         ensures { (s : Self) → whole s → Live (entries s) → adding s cell self.old → self.new ≡ s };
 
-    // Takes one of a cell off, if it is there; its entry stays.
-    fn lower(&mut self, cell: Cell<K>) -> bool
+    // Takes one of a cell off, whose entry stays; refused where it is not there.
+    fn lower(&mut self, cell: Option<K>) -> Result<(), Refusal>
         ensures { whole self.old → Lowers K.Keyed.same whole entries places lowering cell self.old self.new result };
 
     // Undoes the lowering of a cell, if nothing else was done since.
-    fn undo_lower(&mut self, cell: Cell<K>)
+    fn undo_lower(&mut self, cell: Option<K>)
         ensures { (s : Self) → whole s → total (entries s) < 2 ^ 31 → lowering s cell self.old → self.new ≡ s };
 
     // Drops the entries of which none is left, all of whose cells are among those of a part that pass the null policy.

@@ -7,11 +7,11 @@ use Rattle.std.proofs.lemmas.List.{length-map, map-append}
 use Rattle.std.proofs.lemmas.List.Sums.{count_by-le-length, length-filter}
 use Rattle.std.proofs.lemmas.Bool.{cases_Bool, cond_both, cond-true, cond-false, leb-false, leb-true, ne_eqb}
 use Rattle.std.proofs.lemmas.Bool.Decides.{nat_tests}
-use Rattle.columns.specs.declared.cell.Cell.{Cell}
 use Rattle.columns.specs.Merging.{valid_cells}
 use Rattle.columns.specs.Offsets.{start_of}
 use Rattle.records.specs.declared.record.Record.{Record}
-use Rattle.records.specs.Batches.{accepted_from, marked, merged_records, passes}
+use Rattle.columns.specs.Policies.{passes}
+use Rattle.records.specs.Batches.{accepted_from, marked, merged_records}
 use Rattle.records.specs.Records.{list_of, lowered, without}
 
 module _ {K : Type 0} where
@@ -85,7 +85,7 @@ module _ {K : Type 0} where
 
   -- of a batch, no more records are accepted than it has groups, and each for one of those
   module _ (ignore : Bool) (marks : Option (List Bool)) where
-    pub accepted_le : (i : ℕ) (groups : List ℕ) (cells : List (Cell K)) → length (accepted_from ignore marks i groups cells) ≤ length groups
+    pub accepted_le : (i : ℕ) (groups : List ℕ) (cells : List (Option K)) → length (accepted_from ignore marks i groups cells) ≤ length groups
     accepted_le i [] cells = omega arith
     accepted_le i (group ∷ groups) [] = omega arith
     accepted_le i (group ∷ groups) (cell ∷ cells) =
@@ -93,7 +93,7 @@ module _ {K : Type 0} where
         cond_both (marked marks i && passes ignore cell) (record { group = group; cell = cell } ∷ accepted_from ignore marks (i + 1) groups cells) (accepted_from ignore marks (i + 1) groups cells)
         (λ records. length records ≤ suc (length groups)) (λ _. omega arith) (λ _. omega arith)
 
-    pub below_accepted : (count i : ℕ) (groups : List ℕ) (cells : List (Cell K)) → All (λ group. group < count) groups → All (λ (r : Record K). r.group < count) (accepted_from ignore marks i groups cells)
+    pub below_accepted : (count i : ℕ) (groups : List ℕ) (cells : List (Option K)) → All (λ group. group < count) groups → All (λ (r : Record K). r.group < count) (accepted_from ignore marks i groups cells)
     below_accepted count i [] cells h = All-nil (λ (r : Record K). r.group < count)
     below_accepted count i (group ∷ groups) [] h = All-nil (λ (r : Record K). r.group < count)
     below_accepted count i (group ∷ groups) (cell ∷ cells) h =
@@ -105,14 +105,14 @@ module _ {K : Type 0} where
         (λ _. later)
 
   -- a cell that goes to a group
-  abbrev pub for_group : ℕ → Cell K → Record K
+  abbrev pub for_group : ℕ → Option K → Record K
   for_group group cell = record { group = group; cell = cell }
 
-  map_cells : (group : ℕ) (cells : List (Cell K)) → map (λ (r : Record K). r.cell) (map (for_group group) cells) ≡ cells
+  map_cells : (group : ℕ) (cells : List (Option K)) → map (λ (r : Record K). r.cell) (map (for_group group) cells) ≡ cells
   map_cells group [] = refl
   map_cells group (cell ∷ cells) = ap (λ t. cell ∷ t) (map_cells group cells)
 
-  module _ (valid : ℕ → Bool) (offsets : List ℤ) (cells : List (Cell K)) (groups : List ℕ) where
+  module _ (valid : ℕ → Bool) (offsets : List ℤ) (cells : List (Option K)) (groups : List ℕ) where
     -- what row n of a column brings
     abbrev pub Brought : ℕ → List (Record K)
     Brought n = cond (valid n) (map (for_group (get_or groups n 0)) (between (start_of offsets n) (start_of offsets (n + 1)) cells)) []
@@ -125,7 +125,7 @@ module _ {K : Type 0} where
         ∙ ap (λ t. t ++ map (λ (r : Record K). r.cell) (Brought n)) (cells_merged n)
         ∙ ap (λ t. valid_cells valid offsets cells n ++ t) (row (valid n) (between (start_of offsets n) (start_of offsets (n + 1)) cells))
       where
-        row : (b : Bool) (part : List (Cell K)) → map (λ (r : Record K). r.cell) (cond b (map (for_group (get_or groups n 0)) part) []) ≡ cond b part []
+        row : (b : Bool) (part : List (Option K)) → map (λ (r : Record K). r.cell) (cond b (map (for_group (get_or groups n 0)) part) []) ≡ cond b part []
         row true part = map_cells (get_or groups n 0) part
         row false part = refl
 
@@ -135,11 +135,11 @@ module _ {K : Type 0} where
     below_merged count (suc n) l h =
         All-append (λ (r : Record K). r.group < count) (merged_records valid offsets cells groups n) (Brought n) (below_merged count n (omega arith) h) (row (valid n) (between (start_of offsets n) (start_of offsets (n + 1)) cells))
       where
-        each : (part : List (Cell K)) → All (λ (r : Record K). r.group < count) (map (for_group (get_or groups n 0)) part)
+        each : (part : List (Option K)) → All (λ (r : Record K). r.group < count) (map (for_group (get_or groups n 0)) part)
         each [] = All-nil (λ (r : Record K). r.group < count)
         each (cell ∷ part) =
             All-cons (λ (r : Record K). r.group < count) (for_group (get_or groups n 0) cell) (map (for_group (get_or groups n 0)) part) (All-get_or (λ (m : ℕ). m < count) groups n 0 (omega arith) h) (each part)
 
-        row : (b : Bool) (part : List (Cell K)) → All (λ (r : Record K). r.group < count) (cond b (map (for_group (get_or groups n 0)) part) [])
+        row : (b : Bool) (part : List (Option K)) → All (λ (r : Record K). r.group < count) (cond b (map (for_group (get_or groups n 0)) part) [])
         row true part = each part
         row false part = All-nil (λ (r : Record K). r.group < count)

@@ -1,11 +1,9 @@
 -- The records of a column's lists, one list more at a time, and those of one list, one cell more at a time.
-use Rattle.std.proofs.Common.{◌≡◌, ℕ, zero, suc, ◌+◌, ◌-◌, ◌<◌, ◌≤◌, Bool, true, false, cond, ◌⊎◌, List, [], ◌∷◌, ◌++◌, map, length, get_or, take, drop, set, ℤ, Some, None, sym, refl, ap, ◌∙◌, subst, inl, inr, add-one, arith}
+use Rattle.std.proofs.Common.{◌≡◌, ℕ, zero, suc, ◌+◌, ◌-◌, ◌<◌, ◌≤◌, Bool, true, false, cond, ◌⊎◌, List, [], ◌∷◌, ◌++◌, map, length, get_or, take, drop, set, ℤ, Some, None, sym, refl, ap, ◌∙◌, subst, inl, inr, add-one, arith, Option}
 use Rattle.std.specs.List.{between}
 use Rattle.std.proofs.lemmas.List.{append-nil, length-append, length-map, length-take, length-take-le, map_more}
 use Rattle.std.proofs.lemmas.Bool.{cases_eq}
 use Rattle.bitmap.specs.Maps.{row_valid}
-use Rattle.columns.specs.declared.cell.Cell.{Cell}
-use Rattle.columns.specs.declared.cell.Cell.TheVariants.{Null}
 use Rattle.columns.specs.declared.column.ListColumn.{ListColumn}
 use Rattle.columns.specs.Columns.{cells_in, column_rows, list_in}
 use Rattle.columns.specs.Offsets.{GoodOffsets, start_of}
@@ -16,7 +14,7 @@ use Rattle.records.specs.Batches.{merged_records}
 use Rattle.records.proofs.Laws.{Brought, cells_merged, for_group}
 use Rattle.records.proofs.Writing.{Written, written_many, written_more}
 
-module _ {K : Type 0} (valid : ℕ → Bool) (offsets : List ℤ) (cells : List (Cell K)) where
+module _ {K : Type 0} (valid : ℕ → Bool) (offsets : List ℤ) (cells : List (Option K)) where
   -- how many there are does not depend on the groups
   pub length_merged : (groups others : List ℕ) (n : ℕ) → length (merged_records valid offsets cells groups n) ≡ length (merged_records valid offsets cells others n)
   length_merged groups others n =
@@ -31,22 +29,22 @@ module _ {K : Type 0} (valid : ℕ → Bool) (offsets : List ℤ) (cells : List 
     merged_more : (i : ℕ) → Merged (i + 1) ≡ Merged i ++ Brought valid offsets cells groups i
     merged_more i = ap Merged (add-one i)
 
-    pub merged_some : (i : ℕ) (part : List (Cell K)) → Some part ≡ list_in valid offsets cells i → Merged (i + 1) ≡ Merged i ++ map (for_group (get_or groups i 0)) part
+    pub merged_some : (i : ℕ) (part : List (Option K)) → Some part ≡ list_in valid offsets cells i → Merged (i + 1) ≡ Merged i ++ map (for_group (get_or groups i 0)) part
     merged_some i part e = merged_more i ∙ ap (λ t. Merged i ++ t) (go (valid i) (between (start_of offsets i) (start_of offsets (i + 1)) cells) e)
       where
-        go : (b : Bool) (here : List (Cell K)) → Some part ≡ cond b (Some here) None → cond b (map (for_group (get_or groups i 0)) here) [] ≡ map (for_group (get_or groups i 0)) part
+        go : (b : Bool) (here : List (Option K)) → Some part ≡ cond b (Some here) None → cond b (map (for_group (get_or groups i 0)) here) [] ≡ map (for_group (get_or groups i 0)) part
         go true here q = let same : here ≡ part = cc in ap (map (for_group (get_or groups i 0))) same
         go false here q = absurd (let z : ◌≡◌ {A = ℕ} 0 1 = cc in omega arith)
 
     pub merged_none : (i : ℕ) → None ≡ list_in valid offsets cells i → Merged (i + 1) ≡ Merged i
     merged_none i e = merged_more i ∙ ap (λ t. Merged i ++ t) (go (valid i) (between (start_of offsets i) (start_of offsets (i + 1)) cells) e) ∙ append-nil (Merged i)
       where
-        go : (b : Bool) (here : List (Cell K)) → None ≡ cond b (Some here) None → cond b (map (for_group (get_or groups i 0)) here) [] ≡ []
+        go : (b : Bool) (here : List (Option K)) → None ≡ cond b (Some here) None → cond b (map (for_group (get_or groups i 0)) here) [] ≡ []
         go true here q = absurd (let z : ◌≡◌ {A = ℕ} 0 1 = cc in omega arith)
         go false here q = refl
 
     -- how many more they are
-    pub counted_some : (i : ℕ) (part : List (Cell K)) → Some part ≡ list_in valid offsets cells i → length (Merged (i + 1)) ≡ length (Merged i) + length part
+    pub counted_some : (i : ℕ) (part : List (Option K)) → Some part ≡ list_in valid offsets cells i → length (Merged (i + 1)) ≡ length (Merged i) + length part
     counted_some i part e =
         ap length (merged_some i part e) ∙ length-append (Merged i) (map (for_group (get_or groups i 0)) part)
         ∙ ap (λ (k : ℕ). length (Merged i) + k) (length-map part (for_group (get_or groups i 0)))
@@ -63,7 +61,7 @@ module _ {K : Type 0} (valid : ℕ → Bool) (offsets : List ℤ) (cells : List 
         go (inr ne) ih = let le = ih (omega arith) in omega (arith, length-append (Merged n) (Brought valid offsets cells groups n))
 
     -- a list and those before it are within the whole
-    pub merged_room : (i rows : ℕ) (part : List (Cell K)) → i < rows → Some part ≡ list_in valid offsets cells i → length (Merged i) + length part ≤ length (Merged rows)
+    pub merged_room : (i rows : ℕ) (part : List (Option K)) → i < rows → Some part ≡ list_in valid offsets cells i → length (Merged i) + length part ≤ length (Merged rows)
     merged_room i rows part h e =
         let le = merged_le (i + 1) rows (omega arith) in
         let more = counted_some i part e in
@@ -99,26 +97,26 @@ merged_fits c groups i h =
     omega arith
 
 -- one list, appended cell by cell
-module _ {K : Type 0} (group : ℕ) (cells : List (Cell K)) (before after : List (Record K)) (held at k : ℕ) (w : Written before after held at (map (for_group group) (take k cells)))
+module _ {K : Type 0} (group : ℕ) (cells : List (Option K)) (before after : List (Record K)) (held at k : ℕ) (w : Written before after held at (map (for_group group) (take k cells)))
     (room : held + length cells ≤ length before) (h : k < length cells) where
   pub list_place : at < length before
   list_place =
       let count = w.count in
       omega (arith, length-map (take k cells) (for_group group), length-take-le k cells (omega arith))
 
-  pub list_more : (cell : Cell K) → cell ≡ get_or cells k Null → Written before (set after at (for_group group cell)) held (at + 1) (map (for_group group) (take (k + 1) cells))
+  pub list_more : (cell : Option K) → cell ≡ get_or cells k None → Written before (set after at (for_group group cell)) held (at + 1) (map (for_group group) (take (k + 1) cells))
   list_more cell e =
       subst (Written before (set after at (for_group group cell)) held (at + 1))
-      (ap (λ (c : Cell K). map (for_group group) (take k cells) ++ (for_group group c ∷ [])) e ∙ sym (map_more (for_group group) cells k Null h))
+      (ap (λ (c : Option K). map (for_group group) (take k cells) ++ (for_group group c ∷ [])) e ∙ sym (map_more (for_group group) cells k None h))
       (written_more w (for_group group cell) list_place)
 
 -- a column, appended list by list
-module _ {K : Type 0} (valid : ℕ → Bool) (offsets : List ℤ) (cells : List (Cell K)) (groups : List ℕ) (before after : List (Record K)) (held at i : ℕ)
+module _ {K : Type 0} (valid : ℕ → Bool) (offsets : List ℤ) (cells : List (Option K)) (groups : List ℕ) (before after : List (Record K)) (held at i : ℕ)
     (w : Written before after held at (merged_records valid offsets cells groups i)) where
   pub appended_none : None ≡ list_in valid offsets cells i → Written before after held at (merged_records valid offsets cells groups (i + 1))
   appended_none e = subst (Written before after held at) (sym (merged_none valid offsets cells groups i e)) w
 
-  module _ (rows : ℕ) (part : List (Cell K)) (h : i < rows) (e : Some part ≡ list_in valid offsets cells i) (room : held + length (merged_records valid offsets cells groups rows) ≤ length before) where
+  module _ (rows : ℕ) (part : List (Option K)) (h : i < rows) (e : Some part ≡ list_in valid offsets cells i) (room : held + length (merged_records valid offsets cells groups rows) ≤ length before) where
     pub part_room : at + length part ≤ length before
     part_room = let count = w.count in omega (arith, merged_room valid offsets cells groups i rows part h e)
 

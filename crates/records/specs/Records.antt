@@ -1,10 +1,9 @@
 -- Records: their lists by group, and what remains of them when the first groups go.
-use Rattle.std.specs.Prelude.{ℕ, ◌-◌, List, map, filter, ◌==◌, nat_le}
-use Rattle.columns.specs.declared.cell.Cell.{Cell}
+use Rattle.std.specs.Prelude.{ℕ, ◌-◌, List, map, filter, ◌==◌, nat_le, Option}
 use Rattle.records.specs.declared.record.Record.{Record}
 
 -- the cells of group j, in the order of the records
-abbrev pub list_of : {K : Type 0} → ℕ → List (Record K) → List (Cell K)
+abbrev pub list_of : {K : Type 0} → ℕ → List (Record K) → List (Option K)
 list_of j records = map (λ r. r.cell) (filter (λ r. r.group == j) records)
 
 -- a record whose group's number is lowered by n

@@ -1,12 +1,12 @@
 // The rows of a batch that are accepted: counted, and appended to a store.
-ghost use Rattle.std.specs.Prelude.{◌≡◌, ◌+◌, ◌<◌, ◌≤◌, ◌&&◌, ◌++◌, length, take, drop, All, Decides, slice_index_or};
+ghost use Rattle.std.specs.Prelude.{◌≡◌, ◌+◌, ◌<◌, ◌≤◌, ◌&&◌, ◌++◌, length, take, drop, All, Decides, slice_index_or, None};
 ghost use Rattle.std.specs.Option.{option_map};
-ghost use Rattle.columns.specs.declared.cell.Cell.TheVariants.{Null};
 ghost use Rattle.columns.specs.Columns.{cells_in};
-ghost use Rattle.records.specs.Batches.{accepted_from, marked, passes};
+ghost use Rattle.columns.specs.Policies.{passes};
+ghost use Rattle.records.specs.Batches.{accepted_from, marked};
 
 use crate::Record;
-use columns::{Cell, Cells};
+use columns::{Cells, passes};
 
 // Whether every group is below the count.
 pub fn groups_below(groups: &[u32], count: u32) -> bool
@@ -31,27 +31,17 @@ fn mark_at(marks: Option<&[bool]>, i: usize) -> bool
 }
 
 // Cell i; null past the cells.
-fn cell_at<K: Copy>(cells: &Cells<K>, i: usize) -> Cell<K>
-    ensures { result ≡ slice_index_or (cells_in cells.now) i Null }
+fn cell_at<K: Copy>(cells: &Cells<K>, i: usize) -> Option<K>
+    ensures { result ≡ slice_index_or (cells_in cells.now) i None }
 {
-    cells.cell(i).unwrap_or(Cell::Null)
-}
-
-// Whether a cell passes the null policy.
-fn cell_passes<K: Copy>(ignore: bool, cell: &Cell<K>) -> bool
-    ensures { result ≡ passes ignore cell.now }
-{
-    match cell {
-        Cell::Null => !ignore,
-        Cell::Cue(_) => true,
-    }
+    cells.cell(i).unwrap_or(None)
 }
 
 // Whether row i is accepted, if this is its cell.
-fn accepts<K: Copy>(ignore: bool, marks: Option<&[bool]>, i: usize, cell: &Cell<K>) -> bool
+fn accepts<K: Copy>(ignore: bool, marks: Option<&[bool]>, i: usize, cell: &Option<K>) -> bool
     ensures { result ≡ (marked (option_map (λ x. x.now) marks.entry) i && passes ignore cell.now) }
 {
-    mark_at(marks, i) && cell_passes(ignore, cell)
+    mark_at(marks, i) && passes(ignore, cell)
 }
 
 // How many rows are accepted.

@@ -1,12 +1,11 @@
 // The lists of a column, each for a group: their cells counted, and appended to a store.
-ghost use Rattle.std.specs.Prelude.{◌≡◌, ℕ, ◌+◌, ◌<◌, ◌≤◌, List, ◌++◌, map, length, take, drop, slice_index_or};
+ghost use Rattle.std.specs.Prelude.{◌≡◌, ℕ, ◌+◌, ◌<◌, ◌≤◌, List, ◌++◌, map, length, take, drop, slice_index_or, None};
 ghost use Rattle.std.specs.Option.{option_map};
-ghost use Rattle.columns.specs.declared.cell.Cell.TheVariants.{Null};
 ghost use Rattle.columns.specs.Columns.{column_rows, list_at, part_cells};
 ghost use Rattle.records.specs.Batches.{column_records};
 
 use crate::Record;
-use columns::{Cell, ListColumn, Part};
+use columns::{ListColumn, Part};
 
 // Row i of a column that has it: none where it is null, or the part of the cells that it covers.
 fn row_at<'a, K: Copy>(column: &ListColumn<'a, K>, i: usize) -> Option<Part<'a, K>>
@@ -17,10 +16,10 @@ fn row_at<'a, K: Copy>(column: &ListColumn<'a, K>, i: usize) -> Option<Part<'a, 
 }
 
 // Cell k of a part; null past its cells.
-fn part_cell<K: Copy>(part: &Part<K>, k: usize) -> Cell<K>
-    ensures { result ≡ slice_index_or (part_cells part.now) k Null }
+fn part_cell<K: Copy>(part: &Part<K>, k: usize) -> Option<K>
+    ensures { result ≡ slice_index_or (part_cells part.now) k None }
 {
-    part.cell(k).unwrap_or(Cell::Null)
+    part.cell(k).unwrap_or(None)
 }
 
 // How many cells the valid lists have, whatever their groups.

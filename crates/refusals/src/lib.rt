@@ -5,6 +5,7 @@ ghost use Rattle.std.specs.Prelude.{◌≡◌, Some};
 ghost use Rattle.refusals.specs.Numbers.{number_of};
 ghost use Rattle.refusals.specs.Sentences.{line_of, sentence_of};
 
+use std::error::Error;
 use std::fmt;
 
 // In the order in which checks run: where several are due, the first is given.
@@ -27,14 +28,6 @@ pub enum Refusal {
     FirstTooLarge,
     IndexOutOfRange,
     OutputTooShort,
-}
-
-// What a making answers that may be refused: the outcome, and the value made. Where the outcome is a refusal, the value is
-// the empty one of its type.
-#[derive(Clone, Copy, Drop)]
-pub struct Checked<T> {
-    pub value: T,
-    pub outcome: Result<(), Refusal>,
 }
 
 impl Refusal {
@@ -80,3 +73,5 @@ impl fmt::Display for Refusal {
         write!(f, "refused {number}: {sentence}")
     }
 }
+
+impl Error for Refusal {}

@@ -1,4 +1,2 @@
 pub mod Halving
 pub mod Laws
-pub mod Rotating
-pub mod Turning

@@ -1,4 +1,2 @@
 pub mod Orders
-pub mod Rings
-pub mod Shifts
 pub mod Sorted

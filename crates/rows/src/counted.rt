@@ -1,8 +1,7 @@
 // A cell of a row without repeats, and how many times it is live.
-use columns::Cell;
 
-#[derive(Clone, Copy, Drop)]
+#[derive(Clone, Copy, Drop, PartialEq, Eq, Debug)]
 pub struct Counted<K> {
-    pub cell: Cell<K>,
+    pub cell: Option<K>,
     pub count: usize,
 }

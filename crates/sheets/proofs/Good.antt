@@ -1,13 +1,34 @@
 -- The checks of a sheet pass exactly if its bytes keep the rules.
-use Rattle.std.proofs.Common.{◌≡◌, ℕ, ◌*◌, ◌≤◌, eqb, ltb, List, length, is_ok, Err, Decides, Result, sym, ap, ◌∙◌}
-use Rattle.std.proofs.lemmas.Bool.{not-false, not_from_true, eqb-true, eq-eqb, ltb-false, le-ltb, or_parts, or_from, cond-false}
+use Rattle.std.proofs.Common.{◌≡◌, ◌↔◌, ℕ, ◌*◌, ◌%◌, ◌<◌, true, All, subst, eqb, ltb, List, length, get_or, is_ok, IsOk, Ok, Err, Result, refl, sym, ap, ◌∙◌, arith}
+use Rattle.std.specs.List.{list_all}
+use Rattle.std.proofs.lemmas.Bool.{not-false, not_from_true, eqb-true, eq-eqb, ltb-false, le-ltb, ltb-true, lt-ltb, or_parts, or_from}
+use Rattle.std.proofs.lemmas.List.FromFn.{get_or-map-range_with_len, length-map-range_with_len}
+use Rattle.std.proofs.lemmas.List.Sums.{AllPass-from_list_all, list_all-from_AllPass}
 use Rattle.refusals.specs.declared.Refusal.{Refusal}
-use Rattle.refusals.specs.declared.Refusal.TheVariants.{SheetLength}
-use Rattle.refusals.specs.Checks.{unless}
+use Rattle.refusals.specs.Checks.{outcome_of, unless}
 use Rattle.refusals.proofs.Checks.{Pass, unless_pass, pass_from_ok}
-use Rattle.sheets.specs.Layout.{GoodBody, GoodSheet, rows_in, modules_in, body_in, word_at, module_at}
-use Rattle.sheets.specs.Sheets.{body_checks, sheet_checks, all_below, rows_at, rows_of}
-use Rattle.sheets.proofs.Below.{below_decides}
+use Rattle.sheets.specs.Layout.{GoodBody, GoodSheet, rows_in, modules_in, body_in, word_at, words_at}
+use Rattle.sheets.specs.Sheets.{body_checks, sheet_checks}
+
+-- the test that each word's number is below a bound, and the fact that it stands for
+module _ (f : ℕ → ℕ) (bound : ℕ) where
+  pub all_below : (words : List ℕ) → list_all (λ w. ltb (f w) bound) words ≡ true → All (λ w. f w < bound) words
+  all_below words e k d h = ltb-true (f (get_or words k d)) bound (AllPass-from_list_all (λ w. ltb (f w) bound) words e k d h)
+
+  module _ (rows : ℕ) (body : List ℕ) where
+    at_place : (i d : ℕ) → i < rows → get_or (words_at rows body) i d ≡ word_at body i
+    at_place i d h = get_or-map-range_with_len (word_at body) 0 rows i i d h (omega arith)
+
+    long : length (words_at rows body) ≡ rows
+    long = length-map-range_with_len (word_at body) 0 rows
+
+    each_below : list_all (λ w. ltb (f w) bound) (words_at rows body) ≡ true → (i : ℕ) → i < rows → f (word_at body i) < bound
+    each_below e i h = subst (λ w. f w < bound) (at_place i 0 h) (all_below (words_at rows body) e i 0 (omega (arith, long)))
+
+    all_from_each : ((i : ℕ) → i < rows → f (word_at body i) < bound) → list_all (λ w. ltb (f w) bound) (words_at rows body) ≡ true
+    all_from_each each =
+        list_all-from_AllPass (λ w. ltb (f w) bound) (words_at rows body)
+        (λ i d h. let within : i < rows = omega (arith, long) in ap (λ w. ltb (f w) bound) (at_place i d within) ∙ lt-ltb (f (word_at body i)) bound (each i within))
 
 module _ (rows modules : ℕ) (body : List ℕ) where
   good_from_pass : Pass (body_checks rows modules body) → GoodBody rows modules body
@@ -17,8 +38,8 @@ module _ (rows modules : ℕ) (body : List ℕ) where
         sized = eqb-true (length body) (12 * rows) (not-false _ h.0);
         rows_fit = ltb-false 2048 rows sizes.0;
         modules_fit = ltb-false 2048 modules sizes.1;
-        words_known = (below_decides 262144 (word_at body) rows).0 (not-false _ h.1.1.0);
-        modules_known = (below_decides modules (module_at body) rows).0 (not-false _ h.1.1.1.0);
+        words_known = each_below (λ w. w) 262144 rows body (not-false _ h.1.1.0);
+        modules_known = each_below (λ w. w % 65536) modules rows body (not-false _ h.1.1.1.0);
       }
 
   pass_from_good : GoodBody rows modules body → Pass (body_checks rows modules body)
@@ -27,34 +48,23 @@ module _ (rows modules : ℕ) (body : List ℕ) where
     (
       or_from (ltb 2048 rows) (ltb 2048 modules) (le-ltb 2048 rows g.rows_fit) (le-ltb 2048 modules g.modules_fit),
       (
-        not_from_true (all_below 262144 (word_at body) rows) ((below_decides 262144 (word_at body) rows).1 g.words_known),
-        (not_from_true (all_below modules (module_at body) rows) ((below_decides modules (module_at body) rows).1 g.modules_known), tt),
+        not_from_true _ (all_from_each (λ w. w) 262144 rows body g.words_known),
+        (not_from_true _ (all_from_each (λ w. w % 65536) modules rows body g.modules_known), tt),
       ),
     ),
   )
 
-  pub good_decides : Decides (is_ok (unless {T = Unit {0}} (body_checks rows modules body) tt)) (GoodBody rows modules body)
-  good_decides = (
-    λ e. good_from_pass (pass_from_ok {T = Unit {0}} (body_checks rows modules body) tt e),
-    λ g. ap is_ok (unless_pass {T = Unit {0}} (body_checks rows modules body) tt (pass_from_good g)),
-  )
+is_ok-outcome_of : {T : Type 0} (r : Result T Refusal) → is_ok (outcome_of r) ≡ is_ok r
+is_ok-outcome_of (Ok x) = refl
+is_ok-outcome_of (Err e) = refl
 
--- behind a header that is there, the sheet's checks are those of the sizes and the body that the bytes have
-module _ (bytes : List ℕ) (long : 8 ≤ length bytes) (rows modules : ℕ) (body : List ℕ) (rows_is : rows ≡ rows_in bytes) (modules-is : modules ≡ modules_in bytes) (body_is : body ≡ body_in bytes) where
-  pub behind_header : {T : Type 0} (value : T) → unless (body_checks rows modules body) value ≡ unless (sheet_checks bytes) value
-  behind_header value =
-      ap (λ (x : ℕ). unless (body_checks x modules body) value) rows_is
-      ∙ ap (λ (x : ℕ). unless (body_checks (rows_in bytes) x body) value) modules-is
-      ∙ ap (λ (x : List ℕ). unless (body_checks (rows_in bytes) (modules_in bytes) x) value) body_is
-      ∙ sym (cond-false (ltb (length bytes) 8) _ _ (le-ltb (length bytes) 8 long))
-
-  pub same_rows : rows_at rows body ≡ rows_of bytes
-  same_rows = ap (λ (x : ℕ). rows_at x body) rows_is ∙ ap (λ (x : List ℕ). rows_at (rows_in bytes) x) body_is
-
-  pub sheet_decides : (outcome : Result (Unit {0}) Refusal) → outcome ≡ unless (body_checks rows modules body) tt → Decides (is_ok outcome) (GoodSheet bytes)
-  sheet_decides outcome e =
-      let is : is_ok (unless {T = Unit {0}} (body_checks (rows_in bytes) (modules_in bytes) (body_in bytes)) tt) ≡ is_ok outcome =
-      ap is_ok (sym (cond-false (ltb (length bytes) 8) (Err SheetLength) (unless (body_checks (rows_in bytes) (modules_in bytes) (body_in bytes)) tt) (le-ltb (length bytes) 8 long)) ∙ sym (behind_header {T = Unit {0}} tt) ∙ sym e) in (
-        λ ok. record { header = long; body = (good_decides (rows_in bytes) (modules_in bytes) (body_in bytes)).0 (is ∙ ok) },
-        λ good. sym is ∙ (good_decides (rows_in bytes) (modules_in bytes) (body_in bytes)).1 good.body,
-      )
+pub good_sheet : {T : Type 0} (bytes : List ℕ) (result : Result T Refusal) → outcome_of result ≡ unless (sheet_checks bytes) tt → IsOk result ↔ GoodSheet bytes
+good_sheet bytes result outcome =
+    let same : is_ok result ≡ is_ok (unless (sheet_checks bytes) tt) = sym (is_ok-outcome_of result) ∙ ap is_ok outcome in (
+      λ ok.
+          let pass = pass_from_ok (sheet_checks bytes) tt (sym same ∙ ok) in
+          record { header = ltb-false (length bytes) 8 pass.0; body = good_from_pass (rows_in bytes) (modules_in bytes) (body_in bytes) pass.1 },
+      λ good.
+          same
+          ∙ ap is_ok (unless_pass (sheet_checks bytes) tt (le-ltb (length bytes) 8 good.header, pass_from_good (rows_in bytes) (modules_in bytes) (body_in bytes) good.body)),
+    )

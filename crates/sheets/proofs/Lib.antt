@@ -1,3 +1,3 @@
-pub mod Below
+pub mod Bits
+pub mod Chunks
 pub mod Good
-pub mod Tally

@@ -1,5 +1,6 @@
 -- Where a sheet's parts lie in its bytes: a header of two sizes, then the body, a word for each row and then a cue for each row.
-use Rattle.std.specs.Prelude.{◌≡◌, ℕ, ◌*◌, ◌%◌, ◌<◌, ◌≤◌, List, length, drop}
+use Rattle.std.specs.Prelude.{◌≡◌, ℕ, ◌*◌, ◌%◌, ◌<◌, ◌≤◌, List, length, map, drop}
+use Rattle.std.specs.List.{range_with_len}
 use Rattle.sheets.specs.Bytes.{le4}
 
 abbrev pub rows_in : List ℕ → ℕ
@@ -14,6 +15,10 @@ body_in bytes = drop 8 bytes
 -- the word of row i
 abbrev pub word_at : List ℕ → ℕ → ℕ
 word_at body i = le4 body (4 * i)
+
+-- the words of so many rows, in their order
+abbrev pub words_at : ℕ → List ℕ → List ℕ
+words_at rows body = map (word_at body) (range_with_len 0 rows)
 
 -- the module of row i: bits 0 to 15 of its word
 abbrev pub module_at : List ℕ → ℕ → ℕ

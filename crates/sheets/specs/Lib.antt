@@ -1,4 +1,5 @@
 pub mod Bytes
 pub mod Layout
+pub mod Reading
 pub mod Report
 pub mod Sheets

@@ -1,9 +1,7 @@
 -- A record's cell goes behind those of its group that came before it.
-use Rattle.std.proofs.Common.{◌≡◌, ℕ, ◌+◌, ◌<◌, ◌≤◌, not, ◌≢◌, List, map, length, get_or, take, sym, ap, ◌∙◌, subst, arith, rules}
+use Rattle.std.proofs.Common.{◌≡◌, ℕ, ◌+◌, ◌<◌, ◌≤◌, not, ◌≢◌, List, map, length, get_or, take, sym, ap, ◌∙◌, subst, arith, rules, None, is_none}
 use Rattle.std.proofs.lemmas.List.{get_or-map, get_or-set_other, get_or-set_same, length-map, length-take, take_all}
 use Rattle.bitmap.specs.Bits.{valid_at}
-use Rattle.columns.specs.declared.cell.Cell.TheVariants.{Null}
-use Rattle.records.specs.Batches.{is_null}
 use Rattle.records.specs.Lists.{cell_valid, cue_of}
 use Rattle.records.specs.Records.{list_of}
 use Rattle.emit.specs.Marks.{Marked}
@@ -16,7 +14,7 @@ use Rattle.emit.proofs.one_list.copy_cells.Goals.{then-r-j, else-r-j}
 pub loop-r-init : goal.loop-r-init
 loop-r-init g c = (
   omega arith,
-  upto_none (λ k. cue_of g.K.Keyed.empty (get_or (list_of c.args.j c.args.records.now) k Null)) (λ k. get_or c.args.cues.now k g.K.Keyed.empty),
+  upto_none (λ k. cue_of g.K.Keyed.empty (get_or (list_of c.args.j c.args.records.now) k None)) (λ k. get_or c.args.cues.now k g.K.Keyed.empty),
   upto_none (cell_valid (list_of c.args.j c.args.records.now)) (valid_at c.args.cell_map.now),
   within_none (size_of c.args.records.now c.args.j) c.args.cell_map.now c.requires.clear,
 )
@@ -42,23 +40,23 @@ loop-r-preserved g c =
           let more = size_yes c.args.records.now c.args.j c.loop-r.r-index c.r-item.result c.loop-r-test.true here in
           let inside : c.loop-r.p < size_of c.args.records.now c.args.j = omega (arith, size_le c.args.records.now c.args.j (c.loop-r.r-index + 1)) in
           let room : c.loop-r.p < length c.loop-r.cues = omega arith in
-          let cell : c.r-item.result.cell ≡ get_or (list_of c.args.j c.args.records.now) c.loop-r.p Null =
+          let cell : c.r-item.result.cell ≡ get_or (list_of c.args.j c.args.records.now) c.loop-r.p None =
           ap (λ r. r.cell) c.r-item.is ∙ sym (place_of c.args.records.now c.args.j c.loop-r.r-index c.r-item.result c.loop-r-test.true here)
-          ∙ ap (λ (k : ℕ). get_or (list_of c.args.j c.args.records.now) k Null) (sym c.loop-r.invariant.0) in
+          ∙ ap (λ (k : ℕ). get_or (list_of c.args.j c.args.records.now) k None) (sym c.loop-r.invariant.0) in
           let cues = w.cues-is ∙ w.put_cell.ensures.cues in
-          let marked = subst (λ (z : List ℕ). Marked (not (is_null c.r-item.result.cell)) c.loop-r.p c.loop-r.cell_map z) (sym w.cell_map-is) w.put_cell.ensures.marks in
+          let marked = subst (λ (z : List ℕ). Marked (not (is_none c.r-item.result.cell)) c.loop-r.p c.loop-r.cell_map z) (sym w.cell_map-is) w.put_cell.ensures.marks in
           let clear = c.loop-r.invariant.2.rest c.loop-r.p (omega arith) ∙ clear_rows (size_of c.args.records.now c.args.j) c.args.cell_map.now c.requires.clear c.loop-r.p (omega arith) in (
             omega (arith, w.p-is),
-            upto_more (λ k. cue_of g.K.Keyed.empty (get_or (list_of c.args.j c.args.records.now) k Null)) c.loop-r.p c.if-r-j.p (λ k. get_or c.loop-r.cues k g.K.Keyed.empty) (λ k. get_or c.args.cues.now k g.K.Keyed.empty) (λ k. get_or c.if-r-j.cues k g.K.Keyed.empty) w.p-is c.loop-r.invariant.1
+            upto_more (λ k. cue_of g.K.Keyed.empty (get_or (list_of c.args.j c.args.records.now) k None)) c.loop-r.p c.if-r-j.p (λ k. get_or c.loop-r.cues k g.K.Keyed.empty) (λ k. get_or c.args.cues.now k g.K.Keyed.empty) (λ k. get_or c.if-r-j.cues k g.K.Keyed.empty) w.p-is c.loop-r.invariant.1
                 (ap (λ z. get_or z c.loop-r.p g.K.Keyed.empty) cues ∙ get_or-set_same c.loop-r.cues c.loop-r.p _ g.K.Keyed.empty room ∙ ap (cue_of g.K.Keyed.empty) cell)
                 (λ i ne. (let ne2 : i ≢ c.loop-r.p = ne in ap (λ z. get_or z i g.K.Keyed.empty) cues ∙ get_or-set_other c.loop-r.cues c.loop-r.p i _ g.K.Keyed.empty ne2)),
             upto_more (cell_valid (list_of c.args.j c.args.records.now)) c.loop-r.p c.if-r-j.p (valid_at c.loop-r.cell_map) (valid_at c.args.cell_map.now) (valid_at c.if-r-j.cell_map) w.p-is c.loop-r.invariant.2
-                (marked_clear _ c.loop-r.p c.loop-r.cell_map c.if-r-j.cell_map marked clear ∙ ap (λ z. not (is_null z)) cell) marked.others,
+                (marked_clear _ c.loop-r.p c.loop-r.cell_map c.if-r-j.cell_map marked clear ∙ ap (λ z. not (is_none z)) cell) marked.others,
             within_more _ c.loop-r.p (size_of c.args.records.now c.args.j) c.args.cell_map.now c.loop-r.cell_map c.if-r-j.cell_map inside c.loop-r.invariant.3 marked,
           ))
       | else-r-j w ↦ (
         omega (arith, w.p-is, size_no c.args.records.now c.args.j c.loop-r.r-index c.r-item.result c.loop-r-test.true (λ e. omega (arith, w.if-r-j.false))),
-        upto_same (λ k. cue_of g.K.Keyed.empty (get_or (list_of c.args.j c.args.records.now) k Null)) c.loop-r.p c.if-r-j.p (λ k. get_or c.loop-r.cues k g.K.Keyed.empty) (λ k. get_or c.args.cues.now k g.K.Keyed.empty) (λ k. get_or c.if-r-j.cues k g.K.Keyed.empty) w.p-is c.loop-r.invariant.1 (λ i. ap (λ z. get_or z i g.K.Keyed.empty) w.cues-is),
+        upto_same (λ k. cue_of g.K.Keyed.empty (get_or (list_of c.args.j c.args.records.now) k None)) c.loop-r.p c.if-r-j.p (λ k. get_or c.loop-r.cues k g.K.Keyed.empty) (λ k. get_or c.args.cues.now k g.K.Keyed.empty) (λ k. get_or c.if-r-j.cues k g.K.Keyed.empty) w.p-is c.loop-r.invariant.1 (λ i. ap (λ z. get_or z i g.K.Keyed.empty) w.cues-is),
         upto_same (cell_valid (list_of c.args.j c.args.records.now)) c.loop-r.p c.if-r-j.p (valid_at c.loop-r.cell_map) (valid_at c.args.cell_map.now) (valid_at c.if-r-j.cell_map) w.p-is c.loop-r.invariant.2 (λ i. ap (λ (z : List ℕ). valid_at z i) w.cell_map-is),
         subst (Within (size_of c.args.records.now c.args.j) c.args.cell_map.now) (sym w.cell_map-is) c.loop-r.invariant.3,
       )
@@ -70,7 +68,7 @@ returns g c =
     record {
       cues =
           front_all (size_of c.args.records.now c.args.j) (map (cue_of g.K.Keyed.empty) (list_of c.args.j c.args.records.now)) c.loop-r.cues c.args.cues.now g.K.Keyed.empty (length-map (list_of c.args.j c.args.records.now) (cue_of g.K.Keyed.empty)) c.loop-r.auto.cues c.requires.room
-          (λ k h. c.loop-r.invariant.1.reads k (omega arith) ∙ sym (get_or-map (cue_of g.K.Keyed.empty) (list_of c.args.j c.args.records.now) k Null g.K.Keyed.empty h))
+          (λ k h. c.loop-r.invariant.1.reads k (omega arith) ∙ sym (get_or-map (cue_of g.K.Keyed.empty) (list_of c.args.j c.args.records.now) k None g.K.Keyed.empty h))
           (λ k h. c.loop-r.invariant.1.rest k (omega arith));
       marks =
           written_bits (cell_valid (list_of c.args.j c.args.records.now)) (size_of c.args.records.now c.args.j) c.args.cell_map.now c.loop-r.cell_map c.loop-r.auto.cell_map c.requires.bytes c.loop-r.invariant.3

@@ -1,20 +1,13 @@
--- The three counts together are the valid rows, which are at most all rows, so that nothing wraps.
-use Rattle.std.proofs.Common.{◌*◌, ◌/◌, arith, rules}
-use Rattle.bitmap.proofs.Counting.{valid_in_le, nulls_are}
+-- The two counts together are at most the rows, so that nothing wraps.
+use Rattle.std.proofs.Common.{arith, rules}
+use Rattle.bitmap.proofs.Counting.{rows_counted}
 use Rattle.bitmap.proofs.validity.Validity.null_count.Goals as goal
 
 pub overflow_add-valid : goal.overflow_add-valid
-overflow_add-valid c =
-    let some = valid_in_le c.args.self.now.bytes.now (8 * (c.args.self.now.rows / 8)) in
-    search rules
-
-pub overflow_add-valid-2 : goal.overflow_add-valid-2
-overflow_add-valid-2 c =
-    let all = valid_in_le c.args.self.now.bytes.now c.args.self.now.rows in
-    search rules
+overflow_add-valid c = let all = rows_counted _ c.args.self.now.rows _ _ (omega arith) c.ones.ensures c.tail.ensures in search rules
 
 pub overflow_sub-result : goal.overflow_sub-result
-overflow_sub-result c = omega (arith, valid_in_le c.args.self.now.bytes.now c.args.self.now.rows)
+overflow_sub-result c = omega (arith, rows_counted _ c.args.self.now.rows _ _ (omega arith) c.ones.ensures c.tail.ensures)
 
 pub returns : goal.returns
-returns c = omega (arith, nulls_are c.args.self.now.bytes.now c.args.self.now.rows)
+returns c = omega (arith, rows_counted _ c.args.self.now.rows _ _ (omega arith) c.ones.ensures c.tail.ensures)

@@ -1,23 +1,21 @@
-use Rattle.std.proofs.Common.{is_ok, sym, refl, ap, ◌∙◌, arith}
-use Rattle.std.proofs.lemmas.Bool.{false≢true}
-use Rattle.columns.proofs.Making.{column_decides}
+use Rattle.std.proofs.Common.{true, false, arith, rules}
+use Rattle.columns.proofs.Making.{good_when}
+use Rattle.columns.proofs.Rules.{offsets_decide}
 use Rattle.columns.proofs.column.ListColumn.new.Goals as goal
 
-pub over-requires : goal.over-requires
-over-requires g c = (column_decides c.args.parts).0 (ap is_ok (sym c.in-Ok.ensures))
+pub returns-then-not-offsets_keep-clause-good : goal.returns-then-not-offsets_keep-clause-good
+returns-then-not-offsets_keep-clause-good g c = good_when c.args.parts false (search rules)
 
-pub returns-in-Err : goal.returns-in-Err
-returns-in-Err g c = record {
-  outcome = c.in-Err.ensures;
-  good = (λ e. absurd (false≢true e), λ good. ap is_ok c.in-Err.ensures ∙ (column_decides c.args.parts).1 good);
-  rows = c.empty.ensures;
-  lists = λ i h. absurd (omega (arith, c.empty.ensures));
-}
+pub invariant_of-result : goal.invariant_of-result
+invariant_of-result g c =
+    let good = (offsets_decide c.args.parts.offsets.now c.args.parts.rows c.args.parts.cells.rows).0 (search rules) in
+    record {
+      few = search rules;
+      long = search rules;
+      first = search rules;
+      rising = search rules;
+      last = search rules;
+    }
 
-pub returns-in-Ok : goal.returns-in-Ok
-returns-in-Ok g c = record {
-  outcome = c.in-Ok.ensures;
-  good = (λ _. (column_decides c.args.parts).0 (ap is_ok (sym c.in-Ok.ensures)), λ _. refl);
-  rows = c.over.ensures.rows;
-  lists = λ i h. c.over.ensures.lists i;
-}
+pub returns-clause-good : goal.returns-clause-good
+returns-clause-good g c = good_when c.args.parts true (search rules)
