@@ -4,11 +4,8 @@ use Rattle.std.proofs.lemmas.Bool.{not-false, not_from_true, eqb-true, eq-eqb, l
 use Rattle.refusals.specs.Checks.{unless}
 use Rattle.refusals.proofs.Checks.{Pass, unless_pass, pass_from_ok}
 use Rattle.bitmap.specs.Bits.{bytes_for}
-use Rattle.bitmap.specs.Maps.{row_count}
 use Rattle.columns.specs.declared.column.ColumnParts.{ColumnParts}
-use Rattle.columns.specs.declared.column.ListColumn.{ListColumn}
 use Rattle.columns.specs.Columns.{GoodColumn, column_checks}
-use Rattle.columns.specs.Offsets.{GoodOffsets}
 use Rattle.columns.proofs.Rules.{offsets_decide}
 
 module _ {K : Type 0} (p : ColumnParts K) where
@@ -46,6 +43,3 @@ module _ {K : Type 0} (p : ColumnParts K) where
   -- what the outcome of a making says of its parts
   pub good_when : (b : Bool) → b ≡ is_ok (unless {T = Unit {0}} (column_checks p) tt) → Decides b (GoodColumn p)
   good_when b h = (λ e. column_decides.0 (sym h ∙ e), λ good. h ∙ column_decides.1 good)
-
-pub column_good : {K : Type 0} (c : ListColumn K) → GoodOffsets c.offsets.now (row_count c.map) (length c.cells.cues.now)
-column_good c = c.good
