@@ -20,7 +20,7 @@ fn copy_cells<K: Keyed>(records: &[Record<K>], j: u32, cells: &mut CellBuffers<K
     ensures cues { cells.new.cues.now ≡ map (cue_of K.Keyed.empty) (list_of j records.now) ++ drop (length (list_of j records.now)) cells.old.cues.now }
     ensures marks { MapWritten (cell_valid (list_of j records.now)) (length (list_of j records.now)) cells.old.map.now cells.new.map.now }
 {
-    // `enumerate` after a `filter` would count p, but a `for` over a closure's adapter gets no proof in a generic function.
+    // A filter that is enumerated would count p, but in a generic function the check takes no invariant at a `for` over a filter.
     let mut p = 0;
     for r in records {
         if r.group == j {
