@@ -96,6 +96,32 @@ fn arrows_list_example_is_read(rt: HostRuntime) -> Result<(), Fail> {
 }
 
 #[test]
+fn cells_and_lists_come_in_order(rt: HostRuntime) -> Result<(), Fail> {
+    let cells = Cells::new(CellParts {
+        rows: 3,
+        map: &[0b101],
+        cues: &[4, 5, 6],
+    })?;
+    let mut walk = cells.iter();
+    assert_eq!(rt; walk.next(), Some(Some(4)));
+    assert_eq!(rt; walk.next(), Some(None));
+    assert_eq!(rt; walk.next(), Some(Some(6)));
+    assert_eq!(rt; walk.next(), None);
+    let read = ListColumn::new(column(3, &[0, 3, 3, 5], &[0b101], &SEVEN))?;
+    let mut lists = read.iter();
+    let first = lists.next().flatten().ok_or("row 0 is null")?;
+    same_cues(&rt, &first, &SEVEN[0..3]);
+    assert!(rt; lists.next().ok_or("no row 1")?.is_none());
+    let third = lists.next().flatten().ok_or("row 2 is null")?;
+    let mut last = third.iter();
+    assert_eq!(rt; last.next(), Some(Some(0)));
+    assert_eq!(rt; last.next(), Some(Some(-127)));
+    assert_eq!(rt; last.next(), None);
+    assert!(rt; lists.next().is_none());
+    Ok(())
+}
+
+#[test]
 fn a_part_is_given_where_no_null_row_covers_a_cell(rt: HostRuntime) -> Result<(), Fail> {
     // a null row in the middle covers nothing, and the column begins above zero
     let read = ListColumn::new(column(3, &[2, 4, 4, 5], &[0b101], &FIVE))?;

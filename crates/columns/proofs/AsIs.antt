@@ -1,5 +1,5 @@
 -- What is given as the part to merge as it stands, from where the first and the last valid row are.
-use Rattle.std.proofs.Common.{◌≡◌, ℕ, ◌+◌, ◌-◌, ◌<◌, ◌≤◌, Bool, true, false, cond, not, eqb, ◌⊎◌, List, map, length, ℤ, Some, None, sym, ap, ◌∙◌, subst, inl, inr, ⊎_elim, arith}
+use Rattle.std.proofs.Common.{◌≡◌, ℕ, ◌+◌, ◌-◌, ◌<◌, ◌≤◌, Bool, true, false, cond, not, eqb, List, map, length, ℤ, Some, None, sym, ap, ◌∙◌, subst, inl, ⊎_elim, arith}
 use Rattle.std.specs.List.{range_with_len, between}
 use Rattle.std.proofs.lemmas.List.FromFn.{get_or-map-range_with_len, length-map-range_with_len}
 use Rattle.std.proofs.lemmas.List.Edits.{between_none}
@@ -12,7 +12,6 @@ use Rattle.columns.specs.declared.column.Part.{Part}
 use Rattle.columns.specs.Columns.{PartOf, cells_in, column_rows, part_cells}
 use Rattle.columns.specs.Merging.{ColumnGap, RowCovers, RowWhole, column_span, first_valid, merge_span, merged_cells, past_valid, all_whole_from}
 use Rattle.columns.specs.Offsets.{start_of}
-use Rattle.columns.proofs.Making.{column_good}
 use Rattle.columns.proofs.Merging.{first_found, first_none, gap_not, merged_run, past_found, valid_none, whole_from, whole_not}
 
 -- where no row is null, each is valid
@@ -33,24 +32,6 @@ some_rows m some e =
     let most = count_by-le-length not (map (row_valid m) (range_with_len 0 (row_count m))) in
     let long = length-map-range_with_len (row_valid m) 0 (row_count m) in
     some (omega arith)
-
-pub at_most_not : (m n : ℕ) → m ≤ n → (m ≡ n → ⊥) → m < n
-at_most_not m n h ne = ⊎_elim (λ l. l) (λ l. absurd (ne (omega arith))) (cases_lt m n)
-
--- where the first and the last valid row are, as the searches for them tell it
-module _ (valid : ℕ → Bool) (rows first past : ℕ) (within : first < rows) (before : (k : ℕ) → k < first → valid k ≡ false) (found : valid first ≡ true)
-    (past-le : past ≤ rows) (after : (k : ℕ) → past ≤ k → k < rows → valid k ≡ false) (past-found' : 0 < past → valid (past - 1) ≡ true) where
-  pub ends_order : first < past
-  ends_order = ⊎_elim (λ l. l) (λ l. absurd (both_ways (valid first) (after first l within) found)) (cases_lt first past)
-
-  pub ends_first : first_valid valid rows ≡ first
-  ends_first = first_found valid first rows within before found
-
-  pub ends_past : past_valid valid rows ≡ past
-  ends_past =
-      let l = ends_order in
-      let e : past - 1 + 1 ≡ past = omega arith in
-      past_found valid (past - 1) rows (omega arith) (λ k a b. after k (omega arith) b) (past-found' (omega arith)) ∙ e
 
 module _ (valid : ℕ → Bool) (offsets : List ℤ) (rows : ℕ) where
   span_empty : rows ≡ 0 → merge_span valid offsets rows ≡ Some (start_of offsets 0, start_of offsets 0)
@@ -86,11 +67,11 @@ module _ {K : Type 0} (c : ListColumn K) (p : Part K) where
       (to, span ∙ ap (λ (x : ℕ). Some (x, to)) (sym part.place), subst (λ (x : ℕ). PartOf c x to p) (sym part.place) part)
 
   -- all rows outside a stretch of rows are null, and no null row inside it covers a cell
-  pub joined_run : (from to low high : ℕ) → from ≤ to → to ≤ column_rows c → ((k : ℕ) → k < from → row_valid c.map k ≡ false) → ((k : ℕ) → to ≤ k → k < column_rows c → row_valid c.map k ≡ false)
+  joined_rows : (from to low high : ℕ) → from ≤ to → to ≤ column_rows c → ((k : ℕ) → k < from → row_valid c.map k ≡ false) → ((k : ℕ) → to ≤ k → k < column_rows c → row_valid c.map k ≡ false)
       → ((k : ℕ) → from ≤ k → k < to → RowWhole c k) → low ≡ start_of c.offsets.now from → high ≡ start_of c.offsets.now to → PartOf c low high p → Joined c p
-  joined_run from to low high l r before after inside low-is high_is part = (
+  joined_rows from to low high l r before after inside low-is high_is part = (
     part.cells ∙ ap (λ (x : ℕ). between x high (cells_in c.cells)) low-is ∙ ap (λ (x : ℕ). between (start_of c.offsets.now from) x (cells_in c.cells)) high_is
-        ∙ sym (merged_run (row_valid c.map) c.offsets.now (cells_in c.cells) (column_rows c) (length c.cells.cues.now) (column_good c) from to l r before after inside),
+        ∙ sym (merged_run (row_valid c.map) c.offsets.now (cells_in c.cells) (column_rows c) (length c.cells.cues.now) c.good from to l r before after inside),
     gap_not (row_valid c.map) c.offsets.now (column_rows c) from to before after inside,
   )
 
@@ -105,60 +86,75 @@ module _ {K : Type 0} (c : ListColumn K) (p : Part K) where
   given_null some none part =
       given_from 0 0 (span_null (row_valid c.map) c.offsets.now (column_rows c) some (first_none (row_valid c.map) (column_rows c) none)) part
 
-  pub given_run : (first past low high : ℕ) → first < column_rows c → first_valid (row_valid c.map) (column_rows c) ≡ first → past_valid (row_valid c.map) (column_rows c) ≡ past
-      → ((k : ℕ) → first ≤ k → k < past → RowWhole c k) → low ≡ start_of c.offsets.now first → high ≡ start_of c.offsets.now past → PartOf c low high p → Given c p
-  given_run first past low high within first_is past_is inside low-is high_is part =
-      given_from low high
-      (span_run (row_valid c.map) c.offsets.now (column_rows c) first past within first_is past_is (whole_from (row_valid c.map) c.offsets.now first past inside)
-      ∙ ap (λ (x : ℕ). Some (x, start_of c.offsets.now past)) (sym low-is) ∙ ap (λ (x : ℕ). Some (low, x)) (sym high_is))
-      part
+-- i is the first valid row, or the last one, as the searches for them tell it
+abbrev pub IsFirst : {K : Type 0} → ListColumn K → ℕ → Type 0
+IsFirst c i = (i < column_rows c) × (row_valid c.map i ≡ true) × ((k : ℕ) → k < i → row_valid c.map k ≡ false)
 
-  -- no row is null
-  pub given_whole : (low high : ℕ) → ((k : ℕ) → k < column_rows c → row_valid c.map k ≡ true) → low ≡ start_of c.offsets.now 0 → high ≡ start_of c.offsets.now (column_rows c) → PartOf c low high p → Given c p
-  given_whole low high all low-is high_is part =
+abbrev pub IsLast : {K : Type 0} → ListColumn K → ℕ → Type 0
+IsLast c i = (i < column_rows c) × (row_valid c.map i ≡ true) × ((k : ℕ) → i < k → k < column_rows c → row_valid c.map k ≡ false)
+
+module _ {K : Type 0} (c : ListColumn K) (first last : ℕ) (low : IsFirst c first) (high : IsLast c last) where
+  pub in_order : first ≤ last
+  in_order = ⊎_elim (λ l. absurd (both_ways (row_valid c.map last) (low.2 last l) high.1)) (λ l. l) (cases_lt last first)
+
+  first_is : first_valid (row_valid c.map) (column_rows c) ≡ first
+  first_is = first_found (row_valid c.map) first (column_rows c) low.0 low.2 low.1
+
+  past_is : past_valid (row_valid c.map) (column_rows c) ≡ last + 1
+  past_is = past_found (row_valid c.map) last (column_rows c) high.0 high.2 high.1
+
+  -- no null row between the two covers a cell
+  module _ (inside : (k : ℕ) → first ≤ k → k < last → RowWhole c k) (p : Part K) (from to : ℕ) (from_is : from ≡ start_of c.offsets.now first) (to_is : to ≡ start_of c.offsets.now (last + 1)) (part : PartOf c from to p) where
+    through : (k : ℕ) → first ≤ k → k < last + 1 → RowWhole c k
+    through k a b = ⊎_elim (λ e. inl (ap (row_valid c.map) e ∙ high.1)) (λ ne. inside k a (omega arith)) (cases_eq k last)
+
+    pub given_run : Given c p
+    given_run =
+        given_from c p from to
+        (span_run (row_valid c.map) c.offsets.now (column_rows c) first (last + 1) low.0 first_is past_is (whole_from (row_valid c.map) c.offsets.now first (last + 1) through)
+        ∙ ap (λ (x : ℕ). Some (x, start_of c.offsets.now (last + 1))) (sym from_is) ∙ ap (λ (x : ℕ). Some (from, x)) (sym to_is))
+        part
+
+    pub joined_run : Joined c p
+    joined_run = let l = in_order in let h = high.0 in joined_rows c p first (last + 1) from to (omega arith) (omega arith) low.2 (λ k a b. high.2 k (omega arith) b) through from_is to_is part
+
+  -- a null row between the two covers one
+  module _ (hole : (k : ℕ) × (first ≤ k) × (k < last) × RowCovers c k) where
+    pub gap_there : ColumnGap c
+    gap_there =
+        let after_first : hole.0 ≡ first → ⊥ = λ e. both_ways (row_valid c.map hole.0) hole.3.0 (ap (row_valid c.map) e ∙ low.1) in
+        record {
+          before = first;
+          row = hole.0;
+          after = last;
+          in_order = (omega (arith, hole.1), hole.2, high.0);
+          before_valid = low.1;
+          row_null = hole.3.0;
+          row_covers = hole.3.1;
+          after_valid = high.1;
+        }
+
+    pub gap_none : column_span c ≡ None
+    gap_none =
+        span_gap (row_valid c.map) c.offsets.now (column_rows c) first (last + 1) low.0 first_is past_is
+        (whole_not (row_valid c.map) c.offsets.now first (last + 1) hole.0 hole.1 (omega (arith, hole.2)) hole.3.0 hole.3.1)
+
+-- no row is null
+module _ {K : Type 0} (c : ListColumn K) (p : Part K) (from to : ℕ) (all : (k : ℕ) → k < column_rows c → row_valid c.map k ≡ true) (from_is : from ≡ start_of c.offsets.now 0) (to_is : to ≡ start_of c.offsets.now (column_rows c))
+    (part : PartOf c from to p) where
+  pub given_whole : Given c p
+  given_whole =
       ⊎_elim
       (λ e.
-      given_from low high
-      (span_empty (row_valid c.map) c.offsets.now (column_rows c) e ∙ ap (λ (x : ℕ). Some (x, start_of c.offsets.now 0)) (sym low-is)
-      ∙ ap (λ (x : ℕ). Some (low, x)) (ap (start_of c.offsets.now) (sym e) ∙ sym high_is))
+      given_from c p from to
+      (span_empty (row_valid c.map) c.offsets.now (column_rows c) e ∙ ap (λ (x : ℕ). Some (x, start_of c.offsets.now 0)) (sym from_is)
+      ∙ ap (λ (x : ℕ). Some (from, x)) (ap (start_of c.offsets.now) (sym e) ∙ sym to_is))
       part)
       (λ some.
-      let last : column_rows c - 1 + 1 ≡ column_rows c = omega arith in
-      given_run 0 (column_rows c) low high (omega arith) (first_found (row_valid c.map) 0 (column_rows c) (omega arith) (λ k h. absurd (omega arith)) (all 0 (omega arith)))
-      (past_found (row_valid c.map) (column_rows c - 1) (column_rows c) (omega arith) (λ k a b. absurd (omega arith)) (all (column_rows c - 1) (omega arith)) ∙ last)
-      (λ k a b. inl (all k b)) low-is high_is part)
+      let end : column_rows c ≡ column_rows c - 1 + 1 = omega arith in
+      given_run c 0 (column_rows c - 1) (omega arith, all 0 (omega arith), λ k h. absurd (omega arith)) (omega arith, all (column_rows c - 1) (omega arith), λ k a b. absurd (omega arith))
+      (λ k a b. inl (all k (omega arith))) p from to from_is (to_is ∙ ap (start_of c.offsets.now) end) part)
       (cases_eq (column_rows c) 0)
 
-  pub joined_whole : (low high : ℕ) → ((k : ℕ) → k < column_rows c → row_valid c.map k ≡ true) → low ≡ start_of c.offsets.now 0 → high ≡ start_of c.offsets.now (column_rows c) → PartOf c low high p → Joined c p
-  joined_whole low high all low-is high_is part =
-      joined_run 0 (column_rows c) low high (omega arith) (omega arith) (λ k h. absurd (omega arith)) (λ k a b. absurd (omega arith)) (λ k a b. inl (all k b)) low-is high_is part
-
--- a null row from the first valid row on and before the last one covers a cell
-module _ {K : Type 0} (c : ListColumn K) (first past : ℕ) (within : first < column_rows c) (low : row_valid c.map first ≡ true) (top : 0 < past) (under : past ≤ column_rows c) (high : row_valid c.map (past - 1) ≡ true)
-    (k : ℕ) (from : first ≤ k) (to : k < past) (covers : RowCovers c k) where
-  pub gap_there : ColumnGap c
-  gap_there =
-      let ne_first : k ≡ first → ⊥ = λ e. both_ways (row_valid c.map k) covers.0 (ap (row_valid c.map) e ∙ low) in
-      let ne_last : k ≡ past - 1 → ⊥ = λ e. both_ways (row_valid c.map k) covers.0 (ap (row_valid c.map) e ∙ high) in
-      record {
-        before = first;
-        row = k;
-        after = past - 1;
-        in_order = (above ne_first (cases_eq k first), under_last ne_last (cases_eq k (past - 1)), omega arith);
-        before_valid = low;
-        row_null = covers.0;
-        row_covers = covers.1;
-        after_valid = high;
-      }
-    where
-      above : (k ≡ first → ⊥) → (k ≡ first) ⊎ (k ≡ first → ⊥) → first < k
-      above ne (inl e) = absurd (ne e)
-      above ne (inr _) = omega arith
-
-      under_last : (k ≡ past - 1 → ⊥) → (k ≡ past - 1) ⊎ (k ≡ past - 1 → ⊥) → k < past - 1
-      under_last ne (inl e) = absurd (ne e)
-      under_last ne (inr _) = omega arith
-
-  pub gap_none : first_valid (row_valid c.map) (column_rows c) ≡ first → past_valid (row_valid c.map) (column_rows c) ≡ past → column_span c ≡ None
-  gap_none first_is past_is =
-      span_gap (row_valid c.map) c.offsets.now (column_rows c) first past within first_is past_is (whole_not (row_valid c.map) c.offsets.now first past k from to covers.0 covers.1)
+  pub joined_whole : Joined c p
+  joined_whole = joined_rows c p 0 (column_rows c) from to (omega arith) (omega arith) (λ k h. absurd (omega arith)) (λ k a b. absurd (omega arith)) (λ k a b. inl (all k b)) from_is to_is part

@@ -1,15 +1,11 @@
 -- The checks of a list column pass exactly if its parts keep the rules, and what is made of them reads as they do.
-use Rattle.std.proofs.Common.{◌≡◌, ℕ, ◌+◌, Bool, cond, ltb, List, length, ℤ, is_ok, Some, None, Decides, Option, sym, ap, ◌∙◌}
-use Rattle.std.specs.List.{between}
+use Rattle.std.proofs.Common.{◌≡◌, Bool, ltb, length, is_ok, Decides, sym, ap, ◌∙◌}
 use Rattle.std.proofs.lemmas.Bool.{not-false, not_from_true, eqb-true, eq-eqb, ltb-false, le-ltb, or_parts, or_from}
 use Rattle.refusals.specs.Checks.{unless}
 use Rattle.refusals.proofs.Checks.{Pass, unless_pass, pass_from_ok}
 use Rattle.bitmap.specs.Bits.{bytes_for}
-use Rattle.bitmap.specs.Maps.{row_count}
 use Rattle.columns.specs.declared.column.ColumnParts.{ColumnParts}
-use Rattle.columns.specs.declared.column.ListColumn.{ListColumn}
-use Rattle.columns.specs.Columns.{GoodColumn, column_checks, list_in}
-use Rattle.columns.specs.Offsets.{GoodOffsets, start_of}
+use Rattle.columns.specs.Columns.{GoodColumn, column_checks}
 use Rattle.columns.proofs.Rules.{offsets_decide}
 
 module _ {K : Type 0} (p : ColumnParts K) where
@@ -47,13 +43,3 @@ module _ {K : Type 0} (p : ColumnParts K) where
   -- what the outcome of a making says of its parts
   pub good_when : (b : Bool) → b ≡ is_ok (unless {T = Unit {0}} (column_checks p) tt) → Decides b (GoodColumn p)
   good_when b h = (λ e. column_decides.0 (sym h ∙ e), λ good. h ∙ column_decides.1 good)
-
-pub column_good : {K : Type 0} (c : ListColumn K) → GoodOffsets c.offsets.now (row_count c.map) (length c.cells.cues.now)
-column_good c = record { long = c.long; first = c.first; rising = c.rising; last = c.last }
-
-pub list_same : {K : Type 0} (f g : ℕ → Bool) (offsets : List ℤ) (xs ys : List (Option K)) (i : ℕ) → f i ≡ g i → xs ≡ ys → list_in f offsets xs i ≡ list_in g offsets ys i
-list_same {K} f g offsets xs ys i valid cells =
-    ap (λ (b : Bool). row b xs) valid ∙ ap (row (g i)) cells
-  where
-    row : Bool → List (Option K) → Option (List (Option K))
-    row b zs = cond b (Some (between (start_of offsets i) (start_of offsets (i + 1)) zs)) None

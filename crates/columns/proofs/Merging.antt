@@ -1,6 +1,7 @@
 -- The part that can be merged as it stands is the valid lists' cells, joined in order.
-use Rattle.std.proofs.Common.{◌≡◌, ℕ, zero, suc, ◌+◌, ◌-◌, ◌<◌, ◌≤◌, Bool, true, false, cond, ltb, ◌⊎◌, List, [], ◌∷◌, ◌++◌, take, drop, ℤ, sym, refl, ap, ◌∙◌, inl, inr, ⊎_elim, add-one, arith, Option}
+use Rattle.std.proofs.Common.{◌≡◌, ℕ, zero, suc, ◌+◌, ◌-◌, ◌<◌, ◌≤◌, Bool, true, false, cond, ltb, ◌⊎◌, List, [], ◌++◌, take, drop, ℤ, sym, refl, ap, ◌∙◌, inl, inr, ⊎_elim, add-one, arith, Option}
 use Rattle.std.specs.List.{between}
+use Rattle.std.proofs.Math.Seq.{take-add}
 use Rattle.std.proofs.lemmas.List.Edits.{between_none}
 use Rattle.std.proofs.lemmas.List.{append-nil, drop-drop}
 use Rattle.std.proofs.lemmas.Bool.{both_ways, cases_Bool, cases_eq, cases_lt, lt-ltb, le-ltb, and_from, and_left, and_right, or_left, or_right, or_from, not_from_true, not_from_false, cond-true, cond-false}
@@ -88,23 +89,12 @@ module _ (valid : ℕ → Bool) (offsets : List ℤ) where
       below (inl l) = l
       below (inr l) = absurd (both_ways (valid gap.after) (after gap.after l gap.in_order.2) gap.after_valid)
 
-take_nil : {X : Type 0} (n : ℕ) → ◌≡◌ {A = List X} (take n []) []
-take_nil zero = refl
-take_nil (suc n) = refl
-
-take_join : {X : Type 0} (m n : ℕ) (xs : List X) → take m xs ++ take n (drop m xs) ≡ take (m + n) xs
-take_join zero n xs = let e : n ≡ 0 + n = omega arith in ap (λ (k : ℕ). take k xs) e
-take_join {X} (suc m) n [] = take_nil {X = X} n ∙ sym (take_nil {X = X} (suc m + n))
-take_join (suc m) n (x ∷ xs) =
-    let e : suc (m + n) ≡ suc m + n = omega arith in
-    ap (λ t. x ∷ t) (take_join m n xs) ∙ ap (λ (k : ℕ). take k (x ∷ xs)) e
-
 between_join : {X : Type 0} (a b c : ℕ) (xs : List X) → a ≤ b → b ≤ c → between a b xs ++ between b c xs ≡ between a c xs
 between_join {X} a b c xs h l =
     let e : a + (b - a) ≡ b = omega arith in
     let s : (b - a) + (c - b) ≡ c - a = omega arith in
     ap (λ (ys : List X). between a b xs ++ take (c - b) ys) (sym (drop-drop (b - a) a xs ∙ ap (λ (k : ℕ). drop k xs) e))
-    ∙ take_join (b - a) (c - b) (drop a xs) ∙ ap (λ (k : ℕ). take k (drop a xs)) s
+    ∙ sym (take-add (b - a) (c - b) (drop a xs)) ∙ ap (λ (k : ℕ). take k (drop a xs)) s
 
 module _ {K : Type 0} (valid : ℕ → Bool) (offsets : List ℤ) (cells : List (Option K)) where
   pub valid_none : (n : ℕ) → ((k : ℕ) → k < n → valid k ≡ false) → valid_cells valid offsets cells n ≡ []

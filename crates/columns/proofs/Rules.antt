@@ -1,21 +1,31 @@
 -- The test for the rules of offsets, and what the rules say of where rows start.
-use Rattle.std.proofs.Common.{◌≡◌, ℕ, zero, suc, ◌+◌, ◌<◌, ◌≤◌, Bool, true, false, T, eqb, ◌⊎◌, List, length, ℤ, pos, negsuc, ◌≤ℤ◌, Decides, sym, refl, ap, inl, inr, ⊎_elim, add-one, arith}
+use Rattle.std.proofs.Common.{◌≡◌, ℕ, zero, suc, ◌+◌, ◌<◌, ◌≤◌, Bool, true, false, T, eqb, ◌⊎◌, List, length, ℤ, pos, negsuc, ◌≤ℤ◌, ◌<ℤ◌, Decides, Some, sym, refl, ap, inl, inr, ⊎_elim, add-one, arith}
 use lib.Signed.{le_z}
 use Rattle.std.proofs.lemmas.Int.{ints}
-use Rattle.std.proofs.lemmas.Bool.{cases_Bool, cases_eq, and_from, and_parts, eqb-true, eq-eqb, false≢true}
+use Rattle.std.proofs.lemmas.Bool.{both_ways, cases_Bool, cases_eq, and_from, and_parts, eqb-true, eq-eqb, false≢true}
 use Rattle.std.proofs.lemmas.Bool.Decides.{Decides-below_and}
+use Rattle.std.specs.Bool.{passes}
+use Rattle.std.specs.Cmp.{int_ranks}
+use Rattle.std.specs.List.{IsEachAdjacentAnswer}
+use Rattle.std.specs.Ordering.{MatchOrdering, int_cmp, is_le, partial_le}
+use Rattle.std.specs.declared.cmp.Ordering.{Ordering}
+use Rattle.std.specs.declared.cmp.Ordering.TheVariants.{Less, Equal, Greater}
 use Rattle.columns.specs.Offsets.{GoodOffsets, natural, offset_at, offsets_keep, rises, start_of}
-
-test_holds : (b : Bool) → b ≡ true → T b
-test_holds true e = tt
-test_holds false e = absurd (false≢true e)
 
 test_true : (b : Bool) → T b → b ≡ true
 test_true true h = refl
 test_true false h = absurd h
 
 le_z_decides : (a b : ℤ) → Decides (le_z a b) (a ≤ℤ b)
-le_z_decides a b = (λ e. record { le = test_holds (le_z a b) e }, λ h. test_true (le_z a b) h.le)
+le_z_decides a b = (λ e. record { le = passes (le_z a b) e }, λ h. test_true (le_z a b) h.le)
+
+cmp_decides : (a b : ℤ) → Decides (partial_le (λ x y. Some (int_cmp x y)) a b) (a ≤ℤ b)
+cmp_decides a b = ranked (int_cmp a b) (int_ranks a b)
+  where
+    ranked : (o : Ordering) → MatchOrdering o (a <ℤ b) (a ≡ b) (b <ℤ a) → Decides (is_le o) (a ≤ℤ b)
+    ranked Less h = (λ _. omega (arith, ints), λ _. refl)
+    ranked Equal h = (λ _. omega (arith, ints), λ _. refl)
+    ranked Greater h = (λ e. absurd (false≢true e), λ l. absurd (omega (arith, ints)))
 
 module _ (offsets : List ℤ) where
   rises_decides : (n : ℕ) → Decides (rises offsets n) ((i : ℕ) → i < n → offset_at offsets i ≤ℤ offset_at offsets (i + 1))
@@ -23,11 +33,14 @@ module _ (offsets : List ℤ) where
       Decides-below_and (λ i. le_z (offset_at offsets i) (offset_at offsets (i + 1))) (λ i. offset_at offsets i ≤ℤ offset_at offsets (i + 1)) (rises offsets)
       (λ i. le_z_decides (offset_at offsets i) (offset_at offsets (i + 1))) refl (λ _. refl) n
 
-  pub rises_all : (n : ℕ) → ((i : ℕ) → i < n → offset_at offsets i ≤ℤ offset_at offsets (i + 1)) → true ≡ rises offsets n
-  rises_all n h = sym ((rises_decides n).1 h)
-
-  pub rises_not : (n i : ℕ) → i < n → (offset_at offsets i ≤ℤ offset_at offsets (i + 1) → ⊥) → false ≡ rises offsets n
-  rises_not n i l h = ⊎_elim (λ e. absurd (h ((rises_decides n).0 e i l))) sym (cases_Bool (rises offsets n))
+  -- what `is_sorted` answers
+  pub sorted_rises : (rows : ℕ) (b : Bool) → length offsets ≡ rows + 1 → IsEachAdjacentAnswer (λ x y b. partial_le (λ x y. Some (int_cmp x y)) x y ≡ b) offsets b → b ≡ rises offsets rows
+  sorted_rises rows true long h = sym ((rises_decides rows).1 (λ i l. (cmp_decides (offset_at offsets i) (offset_at offsets (i + 1))).0 (h i (pos 0) (omega arith)).1))
+  sorted_rises rows false long h =
+      ⊎_elim
+      (λ e. absurd (both_ways _ (h.2 (pos 0)).1 ((cmp_decides (offset_at offsets h.0) (offset_at offsets (h.0 + 1))).1 ((rises_decides rows).0 e h.0 (omega (arith, h.1))))))
+      sym
+      (cases_Bool (rises offsets rows))
 
   pub offsets_decide : (rows cells : ℕ) → Decides (offsets_keep offsets rows cells) (GoodOffsets offsets rows cells)
   offsets_decide rows cells = (

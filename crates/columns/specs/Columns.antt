@@ -1,7 +1,6 @@
 -- What cells and list columns that were read hold, and when they are refused.
-use Rattle.std.specs.Prelude.{◌≡◌, ℕ, ◌+◌, ◌≤◌, Bool, cond, not, ◌||◌, List, [], ◌∷◌, length, ℤ, Some, None, Ok, Err, Option, Result, ◌==◌, nat_le, nat_lt}
+use Rattle.std.specs.Prelude.{◌≡◌, ℕ, ◌+◌, ◌≤◌, Bool, if◌then◌else◌, not, ◌||◌, List, [], ◌∷◌, length, ℤ, Some, None, Option, ◌==◌, nat_le, nat_lt}
 use Rattle.std.specs.List.{between}
-use Rattle.refusals.specs.declared.Refusal.{Refusal}
 use Rattle.refusals.specs.declared.Refusal.TheVariants.{TooManyRows, CountsDiffer, MapTooShort, BadOffsets, IndexOutOfRange}
 use Rattle.refusals.specs.Checks.{Checks}
 use Rattle.bitmap.specs.Bits.{bytes_for, valid_at}
@@ -47,7 +46,7 @@ column_checks p =
 -- row i of a column with these offsets over these cells, where valid says which rows are valid: null, or the cells that it
 -- covers
 abbrev pub list_in : {K : Type 0} → (ℕ → Bool) → List ℤ → List (Option K) → ℕ → Option (List (Option K))
-list_in valid offsets cells i = cond (valid i) (Some (between (start_of offsets i) (start_of offsets (i + 1)) cells)) None
+list_in valid offsets cells i = if valid i then Some (between (start_of offsets i) (start_of offsets (i + 1)) cells) else None
 
 -- the lists that a caller passes
 abbrev pub passed_list : {K : Type 0} → ColumnParts K → ℕ → Option (List (Option K))
@@ -68,15 +67,3 @@ pub record PartOf {K : Type 0} (c : ListColumn K) (from to : ℕ) (p : Part K) :
   pub place : p.place ≡ from
   pub cues : p.cues.now ≡ between from to c.cells.cues.now
   pub cells : part_cells p ≡ between from to (cells_in c.cells)
-
--- what is read of a row, as the cells of the part that it gives
-abbrev pub list_read : {K : Type 0} → Result (Option (Part K)) Refusal → Result (Option (List (Option K))) Refusal
-list_read (Err e) = Err e
-list_read (Ok None) = Ok None
-list_read (Ok (Some p)) = Ok (Some (part_cells p))
-
--- where a part was read, what holds of it
-abbrev pub OfPart : {K : Type 0} → Result (Option (Part K)) Refusal → (Part K → Type 0) → Type 0
-OfPart (Err e) P = Unit {0}
-OfPart (Ok None) P = Unit {0}
-OfPart (Ok (Some p)) P = P p

@@ -3,3 +3,4 @@ pub mod Policies
 pub mod Offsets
 pub mod Columns
 pub mod Merging
+pub mod Steps

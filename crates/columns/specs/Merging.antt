@@ -1,5 +1,5 @@
 -- The cells that a merge of a list column brings, and the part of the column's own cells that they can be taken from.
-use Rattle.std.specs.Prelude.{◌≡◌, ℕ, zero, suc, ◌+◌, ◌<◌, ◌≤◌, Bool, true, false, cond, not, ◌&&◌, ◌||◌, ◌⊎◌, List, [], ◌++◌, ℤ, Some, None, Option, ◌==◌, nat_lt}
+use Rattle.std.specs.Prelude.{◌≡◌, ℕ, zero, suc, ◌+◌, ◌<◌, ◌≤◌, Bool, true, false, if◌then◌else◌, not, ◌&&◌, ◌||◌, ◌⊎◌, List, [], ◌++◌, ℤ, Some, None, Option, ◌==◌, nat_lt}
 use Rattle.std.specs.List.{between}
 use Rattle.bitmap.specs.Maps.{row_valid}
 use Rattle.columns.specs.declared.column.ListColumn.{ListColumn}
@@ -9,7 +9,7 @@ use Rattle.columns.specs.Offsets.{start_of}
 -- the cells of the valid lists among the first n rows, joined in order
 abbrev pub valid_cells : {K : Type 0} → (ℕ → Bool) → List ℤ → List (Option K) → ℕ → List (Option K)
 valid_cells valid offsets cells zero = []
-valid_cells valid offsets cells (suc n) = valid_cells valid offsets cells n ++ cond (valid n) (between (start_of offsets n) (start_of offsets (n + 1)) cells) []
+valid_cells valid offsets cells (suc n) = valid_cells valid offsets cells n ++ (if valid n then between (start_of offsets n) (start_of offsets (n + 1)) cells else [])
 
 -- the cells of all valid lists of a column, joined in order
 abbrev pub merged_cells : {K : Type 0} → ListColumn K → List (Option K)
@@ -29,12 +29,12 @@ pub record Gap (valid : ℕ → Bool) (offsets : List ℤ) (rows : ℕ) : Type 0
 -- the first valid row of n, or n
 abbrev pub first_valid : (ℕ → Bool) → ℕ → ℕ
 first_valid valid zero = 0
-first_valid valid (suc n) = cond (nat_lt (first_valid valid n) n) (first_valid valid n) (cond (valid n) n (suc n))
+first_valid valid (suc n) = if nat_lt (first_valid valid n) n then first_valid valid n else if valid n then n else suc n
 
 -- one past the last valid row of n, or 0
 abbrev pub past_valid : (ℕ → Bool) → ℕ → ℕ
 past_valid valid zero = 0
-past_valid valid (suc n) = cond (valid n) (suc n) (past_valid valid n)
+past_valid valid (suc n) = if valid n then suc n else past_valid valid n
 
 -- row i is valid or covers no cell
 abbrev pub whole : (ℕ → Bool) → List ℤ → ℕ → Bool
@@ -50,13 +50,10 @@ all_whole_from valid offsets from (suc n) = all_whole_from valid offsets from n 
 -- row in that stretch has cells
 abbrev pub merge_span : (ℕ → Bool) → List ℤ → ℕ → Option (ℕ × ℕ)
 merge_span valid offsets rows =
-    cond (rows == 0)
-    (Some (start_of offsets 0, start_of offsets 0))
-    (cond (first_valid valid rows == rows)
-    (Some (0, 0))
-    (cond (all_whole_from valid offsets (first_valid valid rows) (past_valid valid rows))
-    (Some (start_of offsets (first_valid valid rows), start_of offsets (past_valid valid rows)))
-    None))
+    if rows == 0 then Some (start_of offsets 0, start_of offsets 0)
+    else if first_valid valid rows == rows then Some (0, 0)
+    else if all_whole_from valid offsets (first_valid valid rows) (past_valid valid rows) then Some (start_of offsets (first_valid valid rows), start_of offsets (past_valid valid rows))
+    else None
 
 abbrev pub column_span : {K : Type 0} → ListColumn K → Option (ℕ × ℕ)
 column_span c = merge_span (row_valid c.map) c.offsets.now (column_rows c)

@@ -1,10 +1,9 @@
 // The part of a column's own cells that a merge can take as it stands.
-ghost use Rattle.std.specs.Prelude.{◌≡◌, ℕ, ◌-◌, ◌<◌, ◌≤◌, true, false, Some, None, MatchBool, MatchOption};
+ghost use Rattle.std.specs.Prelude.{◌≡◌, ℕ, ◌<◌, ◌≤◌, true, false, Some, None, MatchBool, MatchOption};
 ghost use Rattle.bitmap.specs.Maps.{row_valid};
 ghost use Rattle.columns.specs.Columns.{PartOf, column_rows, part_cells};
 ghost use Rattle.columns.specs.Merging.{ColumnGap, RowCovers, RowWhole, column_span, merged_cells};
 
-use crate::maps::row_valid;
 use crate::{ListColumn, Part};
 
 impl<'a, K: Copy> ListColumn<'a, K> {
@@ -19,47 +18,37 @@ impl<'a, K: Copy> ListColumn<'a, K> {
             let to = self.start(rows);
             return Some(self.cut(from, to));
         }
-        let first = self.first_valid();
-        if first == rows {
+        let (Some(first), Some(last)) = (self.first_valid(), self.last_valid()) else {
             return Some(self.cut(0, 0));
-        }
-        let past = self.past_valid();
-        if !self.whole_between(first, past) {
+        };
+        if !self.whole_between(first, last) {
             return None;
         }
         let from = self.start(first);
-        let to = self.start(past);
+        let to = self.start(last + 1);
         Some(self.cut(from, to))
     }
 
-    // The first valid row, or the number of rows.
-    fn first_valid(&self) -> usize
-        ensures bound { result ≤ column_rows self.now }
-        ensures before { (k : ℕ) → k < result → row_valid self.now.map k ≡ false }
-        ensures found { result < column_rows self.now → row_valid self.now.map result ≡ true }
+    // Whether a row that the column has is valid.
+    fn row_valid(&self, i: usize) -> bool
+        requires { i < column_rows self.now }
+        ensures { result ≡ row_valid self.now.map i }
     {
-        let rows = self.rows();
-        for i in 0..rows {
-            if row_valid(&self.map, i) {
-                return i;
-            }
-        }
-        rows
+        self.map.is_valid(i).unwrap_or(false)
     }
 
-    // One past the last valid row, or 0.
-    fn past_valid(&self) -> usize
-        ensures bound { result ≤ column_rows self.now }
-        ensures after { (k : ℕ) → result ≤ k → k < column_rows self.now → row_valid self.now.map k ≡ false }
-        ensures found { 0 < result → row_valid self.now.map (result - 1) ≡ true }
+    fn first_valid(&self) -> Option<usize>
+        ensures { MatchOption result ((k : ℕ) → k < column_rows self.now → row_valid self.now.map k ≡ false)
+            (λ i. (i < column_rows self.now) × (row_valid self.now.map i ≡ true) × ((k : ℕ) → k < i → row_valid self.now.map k ≡ false)) }
     {
-        let rows = self.rows();
-        for i in (0..rows).rev() {
-            if row_valid(&self.map, i) {
-                return i + 1;
-            }
-        }
-        0
+        (0..self.rows()).find(|i| self.row_valid(*i))
+    }
+
+    fn last_valid(&self) -> Option<usize>
+        ensures { MatchOption result ((k : ℕ) → k < column_rows self.now → row_valid self.now.map k ≡ false)
+            (λ i. (i < column_rows self.now) × (row_valid self.now.map i ≡ true) × ((k : ℕ) → i < k → k < column_rows self.now → row_valid self.now.map k ≡ false)) }
+    {
+        (0..self.rows()).rfind(|i| self.row_valid(*i))
     }
 
     // Whether row i is valid or covers no cell.
@@ -67,7 +56,7 @@ impl<'a, K: Copy> ListColumn<'a, K> {
         requires { i < column_rows self.now }
         ensures { MatchBool result (RowWhole self.now i) (RowCovers self.now i) }
     {
-        row_valid(&self.map, i) || self.start(i) >= self.start(i + 1)
+        self.row_valid(i) || self.start(i) >= self.start(i + 1)
     }
 
     // Whether no null row from one place to before another covers a cell.
@@ -75,11 +64,6 @@ impl<'a, K: Copy> ListColumn<'a, K> {
         requires { to ≤ column_rows self.now }
         ensures { MatchBool result ((k : ℕ) → from ≤ k → k < to → RowWhole self.now k) ((k : ℕ) × (from ≤ k) × (k < to) × RowCovers self.now k) }
     {
-        for i in from..to {
-            if !self.row_whole(i) {
-                return false;
-            }
-        }
-        true
+        (from..to).all(|i| self.row_whole(i))
     }
 }

@@ -2,10 +2,10 @@
 ghost use Rattle.std.specs.Prelude.{◌≡◌, None, length, IfOk, slice_index_or};
 ghost use Rattle.refusals.specs.Checks.{outcome_of, unless};
 ghost use Rattle.columns.specs.Cells.{batch_checks, level_checks, passed_cells};
-ghost use Rattle.columns.specs.Columns.{cell_row_checks, cells_in};
+ghost use Rattle.columns.specs.Columns.{cell_row_checks, cells_in, part_cells};
+ghost use Rattle.columns.specs.Steps.{cells_left};
 
-use crate::maps::row_valid;
-use crate::{CellParts, Cells, MAX_ROWS};
+use crate::{CellIter, CellParts, Cells, MAX_ROWS, Part};
 use bitmap::Validity;
 use refusals::Refusal;
 
@@ -37,15 +37,31 @@ impl<'a, K: Copy> Cells<'a, K> {
     pub fn len(&self) -> usize
         ensures { result ≡ length (cells_in self.now) }
     {
-        self.cues.len()
+        self.whole().len()
     }
 
     pub fn cell(&self, i: usize) -> Result<Option<K>, Refusal>
         ensures { result ≡ unless (cell_row_checks self.now i) (slice_index_or (cells_in self.now) i None) }
     {
-        let Some(cue) = self.cues.get(i) else {
-            return Err(Refusal::IndexOutOfRange);
-        };
-        Ok(row_valid(&self.map, i).then_some(*cue))
+        self.whole().cell(i)
+    }
+
+    // The cells, in their order.
+    pub fn iter(&self) -> CellIter<'a, K>
+        ensures { cells_left result ≡ cells_in self.now }
+    {
+        self.whole().iter()
+    }
+
+    // All the cells as one part.
+    fn whole(&self) -> Part<'a, K>
+        ensures cues { result.cues.now ≡ self.now.cues.now }
+        ensures cells { part_cells result ≡ cells_in self.now }
+    {
+        Part {
+            place: 0,
+            map: self.map.bytes(),
+            cues: self.cues,
+        }
     }
 }

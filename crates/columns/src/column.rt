@@ -1,7 +1,7 @@
 // A list column over offsets, a map and cells that the caller owns. One that exists keeps the rules.
-ghost use Rattle.std.specs.Prelude.{◌≡◌, ℕ, ◌+◌, ◌<◌, ◌≤◌, length, pos, ◌≤ℤ◌};
+ghost use Rattle.std.specs.Prelude.{◌≤◌, length};
 ghost use Rattle.bitmap.specs.Maps.{row_count};
-ghost use Rattle.columns.specs.Offsets.{offset_at};
+ghost use Rattle.columns.specs.Offsets.{GoodOffsets};
 
 use crate::cells::{CellParts, Cells};
 use bitmap::Validity;
@@ -22,10 +22,7 @@ pub struct ListColumn<'a, K> {
     pub(crate) map: Validity<'a>,
     pub(crate) cells: Cells<'a, K>,
     ghost few: { row_count map ≤ 65536 },
-    ghost long: { length offsets.now ≡ row_count map + 1 },
-    ghost first: { pos 0 ≤ℤ offset_at offsets.now 0 },
-    ghost rising: { (i : ℕ) → i < row_count map → offset_at offsets.now i ≤ℤ offset_at offsets.now (i + 1) },
-    ghost last: { offset_at offsets.now (row_count map) ≤ℤ pos (length cells.cues.now) },
+    ghost good: { GoodOffsets offsets.now (row_count map) (length cells.cues.now) },
 }
 
 // A part of the cells behind a column's lists, not copied: the row of its first cell, the map of all the cells, and its cues.

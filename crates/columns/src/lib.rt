@@ -5,14 +5,15 @@ mod as_is;
 mod batches;
 mod cells;
 mod column;
+mod iters;
 mod lists;
-mod maps;
 mod offset;
 mod parts;
 mod policy;
 
 pub use cells::{CellParts, Cells};
 pub use column::{ColumnParts, ListColumn, Part};
+pub use iters::{CellIter, ListIter};
 pub use policy::passes;
 
 // The most rows that a batch or a list column may have.

@@ -1,12 +1,14 @@
 // List columns, checked and read.
-ghost use Rattle.std.specs.Prelude.{◌≡◌, ℕ, ◌+◌, ◌<◌, ◌≤◌, ◌↔◌, length, IsOk, IfOk};
+ghost use Rattle.std.specs.Prelude.{◌≡◌, ℕ, ◌+◌, ◌<◌, ◌≤◌, ◌↔◌, length, IsOk, IfOk, IfSome};
+ghost use Rattle.std.specs.Option.{option_map};
+ghost use Rattle.std.specs.Result.{result_map_both};
 ghost use Rattle.refusals.specs.Checks.{outcome_of, unless};
-ghost use Rattle.columns.specs.Columns.{GoodColumn, OfPart, PartOf, column_checks, column_row_checks, column_rows, list_at, list_read, passed_list};
+ghost use Rattle.columns.specs.Columns.{GoodColumn, PartOf, column_checks, column_row_checks, column_rows, list_at, part_cells, passed_list};
 ghost use Rattle.columns.specs.Offsets.{start_of};
+ghost use Rattle.columns.specs.Steps.{lists_in, lists_left};
 
-use crate::maps::row_valid;
 use crate::offset::offsets_keep;
-use crate::{Cells, ColumnParts, ListColumn, MAX_CELLS, MAX_ROWS, Part};
+use crate::{Cells, ColumnParts, ListColumn, ListIter, MAX_CELLS, MAX_ROWS, Part};
 use bitmap::Validity;
 use refusals::Refusal;
 
@@ -47,18 +49,25 @@ impl<'a, K: Copy> ListColumn<'a, K> {
 
     // Row i: none where it is null, or the part of the cells that it covers.
     pub fn list(&self, i: usize) -> Result<Option<Part<'a, K>>, Refusal>
-        ensures answer { list_read result ≡ unless (column_row_checks self.now i) (list_at self.now i) }
-        ensures part { OfPart result (PartOf self.now (start_of self.now.offsets.now i) (start_of self.now.offsets.now (i + 1))) }
+        ensures answer { result_map_both (option_map part_cells) (λ e. e) result ≡ unless (column_row_checks self.now i) (list_at self.now i) }
+        ensures part { IfOk result (λ list. IfSome list (PartOf self.now (start_of self.now.offsets.now i) (start_of self.now.offsets.now (i + 1)))) }
     {
-        if i >= self.rows() {
-            return Err(Refusal::IndexOutOfRange);
-        }
-        if !row_valid(&self.map, i) {
+        if !self.map.is_valid(i)? {
             return Ok(None);
         }
         let from = self.start(i);
         let to = self.start(i + 1);
         Ok(Some(self.cut(from, to)))
+    }
+
+    // The lists, in the order of their rows: none where a row is null, or the part of the cells that it covers.
+    pub fn iter(&self) -> ListIter<'_, K>
+        ensures { lists_left result ≡ lists_in self.now }
+    {
+        ListIter {
+            column: self,
+            rows: 0..self.rows(),
+        }
     }
 
     // Where row i starts, or for the number of rows where the last one ends.

@@ -2,8 +2,9 @@
 ghost use Rattle.std.specs.Prelude.{◌≡◌, length, slice_index_or, None};
 ghost use Rattle.refusals.specs.Checks.{unless};
 ghost use Rattle.columns.specs.Columns.{part_cells, part_row_checks};
+ghost use Rattle.columns.specs.Steps.{cells_left};
 
-use crate::Part;
+use crate::{CellIter, Part};
 use bitmap::get_bit;
 use refusals::Refusal;
 
@@ -21,5 +22,15 @@ impl<'a, K: Copy> Part<'a, K> {
             return Err(Refusal::IndexOutOfRange);
         };
         Ok(get_bit(self.map, self.place, i).then_some(*cue))
+    }
+
+    // The cells, in their order.
+    pub fn iter(&self) -> CellIter<'a, K>
+        ensures { cells_left result ≡ part_cells self.now }
+    {
+        CellIter {
+            part: *self,
+            rows: 0..self.len(),
+        }
     }
 }

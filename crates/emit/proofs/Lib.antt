@@ -1,6 +1,9 @@
+pub mod Copying
 pub mod Counting
 pub mod Handing
 pub mod Marking
+pub mod Pairs
 pub mod Placing
 pub mod Reading
+pub mod Scattering
 pub mod Sorting

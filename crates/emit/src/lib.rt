@@ -2,13 +2,14 @@
 // the crates above, which check what they ask.
 #![tactic(auto)]
 
-mod cell_map;
+mod cells;
 mod counts;
 mod lists;
 mod offsets;
 mod one_list;
 mod scatter;
 
+pub use cells::CellBuffers;
 pub use counts::{count_below, count_list};
 pub use lists::write_lists;
 pub use one_list::copy_list;

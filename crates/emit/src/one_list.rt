@@ -1,50 +1,46 @@
 // One list of the store.
-ghost use Rattle.std.specs.Prelude.{◌≡◌, ℕ, ◌<◌, ◌≤◌, ◌++◌, map, length, take, drop, slice_index};
+ghost use Rattle.std.specs.Prelude.{◌≡◌, ℕ, ◌<◌, ◌≤◌, ◌++◌, map, length, drop, slice_index};
 ghost use Rattle.bitmap.specs.Bits.{bytes_for};
 ghost use Rattle.bitmap.specs.Maps.{MapWritten};
 ghost use Rattle.records.specs.Lists.{cell_valid, cue_of};
 ghost use Rattle.records.specs.Records.{list_of};
+ghost use Rattle.emit.specs.Buffers.{SameBuffers};
 
-use crate::cell_map::{clear_map, put_cell};
-use crate::counts::{count_list, front};
+use crate::cells::CellBuffers;
+use crate::counts::count_list;
 use kinds::Keyed;
 use records::Record;
 
 // Writes the cells of list j, over a clear map.
-fn copy_cells<K: Keyed>(records: &[Record<K>], j: u32, cues: &mut [K], cell_map: &mut [u8])
-    requires room { length (list_of j records.now) ≤ length cues.old }
-    requires bytes { bytes_for (length (list_of j records.now)) ≤ length cell_map.old }
-    requires clear { (k : ℕ) → k < bytes_for (length (list_of j records.now)) → slice_index cell_map.old k ≡ 0 }
-    ensures cues { cues.new ≡ map (cue_of K.Keyed.empty) (list_of j records.now) ++ drop (length (list_of j records.now)) cues.old }
-    ensures marks { MapWritten (cell_valid (list_of j records.now)) (length (list_of j records.now)) cell_map.old cell_map.new }
+fn copy_cells<K: Keyed>(records: &[Record<K>], j: u32, cells: &mut CellBuffers<K>)
+    requires room { length (list_of j records.now) ≤ length cells.old.cues.now }
+    requires bytes { bytes_for (length (list_of j records.now)) ≤ length cells.old.map.now }
+    requires clear { (k : ℕ) → k < bytes_for (length (list_of j records.now)) → slice_index cells.old.map.now k ≡ 0 }
+    ensures same { SameBuffers cells.old cells.new }
+    ensures cues { cells.new.cues.now ≡ map (cue_of K.Keyed.empty) (list_of j records.now) ++ drop (length (list_of j records.now)) cells.old.cues.now }
+    ensures marks { MapWritten (cell_valid (list_of j records.now)) (length (list_of j records.now)) cells.old.map.now cells.new.map.now }
 {
+    // A filter that is enumerated would count p, but in a generic function the check takes no invariant at a `for` over a filter.
     let mut p = 0;
     for r in records {
         if r.group == j {
-            put_cell(r.cell, p, cues, cell_map);
+            cells.put(p, r.cell);
             p += 1;
         }
     }
 }
 
 // Writes the cues of list j and the map of its cells, and answers how many cells it has.
-pub fn copy_list<K: Keyed>(
-    store: &[Record<K>],
-    held: usize,
-    j: u32,
-    cues: &mut [K],
-    cell_map: &mut [u8],
-) -> usize
-    requires few { length (take held store.now) ≤ 1048576 }
-    requires cues { length (list_of j (take held store.now)) ≤ length cues.old }
-    requires marks { bytes_for (length (list_of j (take held store.now))) ≤ length cell_map.old }
-    ensures answer { result ≡ length (list_of j (take held store.now)) }
-    ensures cues { cues.new ≡ map (cue_of K.Keyed.empty) (list_of j (take held store.now)) ++ drop result cues.old }
-    ensures marks { MapWritten (cell_valid (list_of j (take held store.now))) result cell_map.old cell_map.new }
+pub fn copy_list<K: Keyed>(records: &[Record<K>], j: u32, cells: &mut CellBuffers<K>) -> usize
+    requires cues { length (list_of j records.now) ≤ length cells.old.cues.now }
+    requires marks { bytes_for (length (list_of j records.now)) ≤ length cells.old.map.now }
+    ensures answer { result ≡ length (list_of j records.now) }
+    ensures same { SameBuffers cells.old cells.new }
+    ensures cues { cells.new.cues.now ≡ map (cue_of K.Keyed.empty) (list_of j records.now) ++ drop result cells.old.cues.now }
+    ensures marks { MapWritten (cell_valid (list_of j records.now)) result cells.old.map.now cells.new.map.now }
 {
-    let size = count_list(store, held, j);
-    clear_map(cell_map, size);
-    let records = front(store, held);
-    copy_cells(records, j, cues, cell_map);
+    let size = count_list(records, j);
+    cells.clear(size);
+    copy_cells(records, j, cells);
     size
 }

@@ -1,10 +1,12 @@
 -- The laws of records: their lists by group, what remains of them, and what batches and columns bring.
-use Rattle.std.proofs.Common.{◌≡◌, ℕ, zero, suc, ◌+◌, ◌-◌, ◌<◌, ◌≤◌, Bool, true, false, cond, ◌&&◌, eqb, leb, ◌⊎◌, List, [], ◌∷◌, ◌++◌, map, length, get_or, ℤ, count_by, filter, Option, sym, refl, ap, ◌∙◌, inl, inr, arith}
+use Rattle.std.proofs.Common.{◌≡◌, ℕ, zero, suc, ◌+◌, ◌-◌, ◌<◌, ◌≤◌, Bool, true, false, cond, ◌&&◌, eqb, leb, ◌⊎◌, List, [], ◌∷◌, ◌++◌, map, length, get_or, ℤ, count_by, filter, Option, Some, None, sym, refl, ap, ◌∙◌, inl, inr, arith}
 use Rattle.std.specs.Prelude.{All}
-use Rattle.std.specs.List.{between}
+use Rattle.std.specs.List.{between, cons_option, enumerate_from, filter_map, zip}
 use Rattle.std.proofs.lemmas.List.Elements.{filter-append, All-append, All-cons, All-get_or, All-head, All-nil, All-tail}
 use Rattle.std.proofs.lemmas.List.{length-map, map-append}
+use Rattle.std.proofs.lemmas.List.FromFn.{length-enumerate_from}
 use Rattle.std.proofs.lemmas.List.Sums.{count_by-le-length, length-filter}
+use Rattle.std.proofs.lemmas.Slice.Zip.{length-zip}
 use Rattle.std.proofs.lemmas.Bool.{cases_Bool, cond_both, cond-true, cond-false, leb-false, leb-true, ne_eqb}
 use Rattle.std.proofs.lemmas.Bool.Decides.{nat_tests}
 use Rattle.columns.specs.Merging.{valid_cells}
@@ -13,6 +15,11 @@ use Rattle.records.specs.declared.record.Record.{Record}
 use Rattle.columns.specs.Policies.{passes}
 use Rattle.records.specs.Batches.{accepted_from, marked, merged_records}
 use Rattle.records.specs.Records.{list_of, lowered, without}
+
+-- a map of a list that has its first only where a test passes
+map_kept : {X Y : Type 0} (f : X → Y) (b : Bool) (x : X) (xs : List X) → map f (cond b (x ∷ xs) xs) ≡ cond b (f x ∷ map f xs) (map f xs)
+map_kept f true x xs = refl
+map_kept f false x xs = refl
 
 module _ {K : Type 0} where
   -- lists of records one after another
@@ -34,11 +41,7 @@ module _ {K : Type 0} where
   without_no n x xs e = ap (map (lowered n)) (cond-false (leb n x.group) (x ∷ filter (λ r. leb n r.group) xs) (filter (λ r. leb n r.group) xs) e)
 
   pub list_cons : (j : ℕ) (x : Record K) (xs : List (Record K)) → list_of j (x ∷ xs) ≡ cond (eqb x.group j) (x.cell ∷ list_of j xs) (list_of j xs)
-  list_cons j x xs = go (eqb x.group j)
-    where
-      go : (b : Bool) → map (λ (r : Record K). r.cell) (cond b (x ∷ filter (λ r. eqb r.group j) xs) (filter (λ r. eqb r.group j) xs)) ≡ cond b (x.cell ∷ list_of j xs) (list_of j xs)
-      go true = refl
-      go false = refl
+  list_cons j x xs = map_kept (λ (r : Record K). r.cell) (eqb x.group j) x (filter (λ r. eqb r.group j) xs)
 
   -- the list of a group that no record has
   pub list_none : (j : ℕ) (xs : List (Record K)) → All (λ r. r.group ≡ j → ⊥) xs → list_of j xs ≡ []
@@ -83,15 +86,37 @@ module _ {K : Type 0} where
           rw (without_yes n x xs e) (All-cons (λ (r : Record K). r.group < count - n) (lowered n x) (without n xs) lower ih)
       go (inr e) ih = rw (without_no n x xs e) ih
 
+  -- the records that come out of `filter_map` are those that remain
+  pub without_filter_map : (n : ℕ) (xs : List (Record K)) → filter_map (λ r. cond (leb n r.group) (Some (lowered n r)) None) xs ≡ without n xs
+  without_filter_map n [] = refl
+  without_filter_map n (x ∷ xs) = ap (cons_option (cond (leb n x.group) (Some (lowered n x)) None)) (without_filter_map n xs) ∙ go (leb n x.group)
+    where
+      go : (b : Bool) → cons_option (cond b (Some (lowered n x)) None) (without n xs) ≡ map (lowered n) (cond b (x ∷ filter (λ r. leb n r.group) xs) (filter (λ r. leb n r.group) xs))
+      go true = refl
+      go false = refl
+
+  -- the record that a row brings
+  abbrev pub record_of : ℕ × (ℕ × Option K) → Record K
+  record_of row = record { group = row.1.0; cell = row.1.1 }
+
   -- of a batch, no more records are accepted than it has groups, and each for one of those
   module _ (ignore : Bool) (marks : Option (List Bool)) where
+    abbrev pub accepts : ℕ × (ℕ × Option K) → Bool
+    accepts row = marked marks row.0 && passes ignore row.1.1
+
+    pub length_accepted : (i : ℕ) (groups : List ℕ) (cells : List (Option K)) → length (accepted_from ignore marks i groups cells) ≡ length (filter accepts (enumerate_from i (zip groups cells)))
+    length_accepted i groups cells = length-map (filter accepts (enumerate_from i (zip groups cells))) record_of
+
+    -- one row more in front
+    pub accepted_cons : (i group : ℕ) (cell : Option K) (groups : List ℕ) (cells : List (Option K))
+        → accepted_from ignore marks i (group ∷ groups) (cell ∷ cells)
+        ≡ cond (marked marks i && passes ignore cell) (record { group = group; cell = cell } ∷ accepted_from ignore marks (i + 1) groups cells) (accepted_from ignore marks (i + 1) groups cells)
+    accepted_cons i group cell groups cells = map_kept record_of (marked marks i && passes ignore cell) (i, (group, cell)) (filter accepts (enumerate_from (i + 1) (zip groups cells)))
+
     pub accepted_le : (i : ℕ) (groups : List ℕ) (cells : List (Option K)) → length (accepted_from ignore marks i groups cells) ≤ length groups
-    accepted_le i [] cells = omega arith
-    accepted_le i (group ∷ groups) [] = omega arith
-    accepted_le i (group ∷ groups) (cell ∷ cells) =
-        let le = accepted_le (i + 1) groups cells in
-        cond_both (marked marks i && passes ignore cell) (record { group = group; cell = cell } ∷ accepted_from ignore marks (i + 1) groups cells) (accepted_from ignore marks (i + 1) groups cells)
-        (λ records. length records ≤ suc (length groups)) (λ _. omega arith) (λ _. omega arith)
+    accepted_le i groups cells =
+        let rows = enumerate_from i (zip groups cells) in
+        omega (arith, length_accepted i groups cells, length-filter accepts rows, count_by-le-length accepts rows, length-enumerate_from i (zip groups cells), length-zip groups cells)
 
     pub below_accepted : (count i : ℕ) (groups : List ℕ) (cells : List (Option K)) → All (λ group. group < count) groups → All (λ (r : Record K). r.group < count) (accepted_from ignore marks i groups cells)
     below_accepted count i [] cells h = All-nil (λ (r : Record K). r.group < count)
@@ -99,10 +124,11 @@ module _ {K : Type 0} where
     below_accepted count i (group ∷ groups) (cell ∷ cells) h =
         let under = All-head (λ (m : ℕ). m < count) group groups h in
         let later = below_accepted count (i + 1) groups cells (All-tail (λ (m : ℕ). m < count) group groups h) in
-        cond_both (marked marks i && passes ignore cell) (record { group = group; cell = cell } ∷ accepted_from ignore marks (i + 1) groups cells) (accepted_from ignore marks (i + 1) groups cells)
+        rw (accepted_cons i group cell groups cells)
+        (cond_both (marked marks i && passes ignore cell) (record { group = group; cell = cell } ∷ accepted_from ignore marks (i + 1) groups cells) (accepted_from ignore marks (i + 1) groups cells)
         (All (λ (r : Record K). r.group < count))
         (λ _. All-cons (λ (r : Record K). r.group < count) (record { group = group; cell = cell }) (accepted_from ignore marks (i + 1) groups cells) under later)
-        (λ _. later)
+        (λ _. later))
 
   -- a cell that goes to a group
   abbrev pub for_group : ℕ → Option K → Record K

@@ -1,6 +1,6 @@
 pub mod Accepting
+pub mod Appending
+pub mod Counting
+pub mod Extending
 pub mod Laws
 pub mod Merging
-pub mod Reading
-pub mod Removing
-pub mod Writing

@@ -6,7 +6,7 @@ mod merge;
 mod record;
 mod remove;
 
-pub use accept::{append_accepted, count_accepted, groups_below};
+pub use accept::{Batch, Filter, groups_below};
 pub use merge::{append_merged, count_merged};
 pub use record::Record;
 pub use remove::remove_below;

@@ -1,25 +1,23 @@
 // Records removed from a store.
-ghost use Rattle.std.specs.Prelude.{◌≡◌, ◌++◌, length, take, drop};
+ghost use Rattle.std.specs.Prelude.{◌≡◌, length, drop};
+ghost use Rattle.slices.specs.Vecs.{places, slice_vec_len, spare_places, values, KeepsSlice};
 ghost use Rattle.records.specs.Records.{without};
 
 use crate::Record;
+use slices::SliceVec;
 
-// Removes the held records of groups 0 to n - 1 and numbers the others from 0 again, in place and in their order; answers
-// how many are held then.
-pub fn remove_below<K: Copy>(store: &mut [Record<K>], held: usize, n: u32) -> usize
-    ensures count { result ≡ length (without n (take held store.old)) }
-    ensures stored { store.new ≡ without n (take held store.old) ++ drop result store.old }
+// Removes the records of groups 0 to n - 1 and numbers the others from 0 again, in place and in their order.
+pub fn remove_below<K: Copy>(store: &mut SliceVec<Record<K>>, n: u32)
+    ensures same_slice { KeepsSlice store.old store.new }
+    ensures values { values store.new ≡ without n (values store.old) }
+    ensures len { slice_vec_len store.new ≡ length (without n (values store.old)) }
+    ensures spare { spare_places store.new ≡ drop (slice_vec_len store.new) (places store.old) }
 {
-    let mut at = 0;
-    for i in 0..held.min(store.len()) {
-        let record = store[i];
-        if record.group >= n {
-            store[at] = Record {
-                group: record.group - n,
-                cell: record.cell,
-            };
-            at += 1;
-        }
-    }
-    at
+    store.filter_map_in_place(|record| {
+        let group = record.group.checked_sub(n)?;
+        Some(Record {
+            group,
+            cell: record.cell,
+        })
+    });
 }

@@ -59,7 +59,8 @@ impl<'a> Body<'a> {
         }
     }
 
-    // Whether no word has a bit set that means nothing.
+    // Whether no word has a bit set that means nothing. One method for this test and the next would have to say what a test
+    // computes, and be no plainer.
     pub(crate) fn words_known(&self) -> bool
         ensures { result ≡ list_all (λ w. nat_lt w 262144) (map (from_le_bytes w32) self.now.words.now) }
     {

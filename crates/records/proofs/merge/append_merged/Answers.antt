@@ -1,45 +1,47 @@
-use Rattle.std.proofs.Common.{◌≡◌, ◌<◌, ap, subst, arith}
-use Rattle.bitmap.specs.Maps.{row_valid}
-use Rattle.columns.specs.Columns.{cells_in, column_rows, part_cells}
-use Rattle.records.specs.Batches.{merged_records}
-use Rattle.records.proofs.Merging.{appended_none, appended_some, part_room}
-use Rattle.records.proofs.Writing.{Written, written_none}
+use Rattle.std.proofs.Common.{◌++◌, length, ap, sym, ◌∙◌, arith, ⊎_elim, inl, inr, rules, tests}
+use Rattle.std.proofs.lemmas.List.{length-append, length-map}
+use Rattle.std.proofs.lemmas.Iterator.{YieldsList-from_map}
+use Rattle.std.proofs.lemmas.Iterator.Consumers.{YieldsList-at, YieldsList-from_first}
+use Rattle.columns.specs.Columns.{part_cells}
+use Rattle.columns.specs.Steps.{cells_left}
+use Rattle.slices.specs.Vecs.{values}
+use Rattle.records.specs.Batches.{column_records}
+use Rattle.records.proofs.Appending.{all_appended, appended, has_room, length_appended}
+use Rattle.records.proofs.Extending.{extended, extension_fits}
+use Rattle.records.proofs.Laws.{for_group}
+use Rattle.records.proofs.Merging.{column_brought, next_list, no_list}
 use Rattle.records.proofs.merge.append_merged.Goals as goal
-use Rattle.records.proofs.merge.append_merged.Goals.{in-Some, in_default}
 
-pub loop-i-init : goal.loop-i-init
-loop-i-init g c = written_none c.args.store.now c.args.held
-
-pub append_list-at-requires : goal.append_list-at-requires
-append_list-at-requires g c =
-    let rows = c.rows-i-end.ensures in
-    let long = c.loop-i.auto.store in
-    let within : c.loop-i.i < column_rows c.args.column.now = omega arith in
-    omega (
+pub extend-requires-clause-room : goal.extend-requires-clause-room
+extend-requires-clause-room g c =
+    let cells = part_cells c.in-Some-list.part in
+    extension_fits
+    (YieldsList-from_map _ (for_group c.in-Some.group.now) (YieldsList-at c.map.ensures.source (YieldsList-from_first (λ x. x) cells_left cells c.iter-in-Some-list.ensures)) c.map.ensures.closure (λ x r q k. search (rules, tests)))
+    _ _
+    (omega (
       arith,
-      part_room (row_valid c.args.column.now.map) c.args.column.now.offsets.now (cells_in c.args.column.now.cells) c.args.groups.now c.args.store.now c.loop-i.store c.args.held c.loop-i.at c.loop-i.i c.loop-i.invariant
-          (column_rows c.args.column.now) (part_cells c.in-Some.part) within c.in-Some.ensures c.requires.room,
-    )
+      has_room c.loop-group.invariant.appending (omega (arith, ap length (column_brought c.args.column.now c.args.groups.now c.requires.groups))),
+      simp (length-append, length-map) at (ap length (next_list c.in-Some.ensures.steps c.in-Some-list.part c.in-Some-list.is)),
+      length-map cells (for_group c.in-Some.group.now),
+    ))
 
-pub loop-i-preserved : goal.loop-i-preserved
-loop-i-preserved g c =
-    let rows = c.rows-i-end.ensures in
-    let within : c.loop-i.i < column_rows c.args.column.now = omega arith in
-    elim c.match-row_at.branch [
-      | in-Some w ↦
-          rw (w.store-is, w.at-is)
-          (appended_some (row_valid c.args.column.now.map) c.args.column.now.offsets.now (cells_in c.args.column.now.cells) c.args.groups.now c.args.store.now c.loop-i.store c.args.held c.loop-i.at c.loop-i.i c.loop-i.invariant
-          (column_rows c.args.column.now) (part_cells w.in-Some.part) within w.in-Some.ensures c.requires.room w.append_list-at.new.store w.append_list-at.result w.append_list-at.ensures.count w.append_list-at.ensures.stored)
-      | in_default w ↦
-          rw (w.store-is, w.at-is)
-          (appended_none (row_valid c.args.column.now.map) c.args.column.now.offsets.now (cells_in c.args.column.now.cells) c.args.groups.now c.args.store.now c.loop-i.store c.args.held c.loop-i.at c.loop-i.i c.loop-i.invariant
-          w.in_default.ensures)
-    ]
+pub loop-group-preserved-in-Some-list : goal.loop-group-preserved-in-Some-list
+loop-group-preserved-in-Some-list g c =
+    let cells = part_cells c.in-Some-list.part in
+    let held =
+    extended
+    (YieldsList-from_map _ (for_group c.in-Some.group.now) (YieldsList-at c.map.ensures.source (YieldsList-from_first (λ x. x) cells_left cells c.iter-in-Some-list.ensures)) c.map.ensures.closure (λ x r q k. search (rules, tests)))
+    _ _ c.extend.ensures.runs in
+    record {
+      can_next = (tt, tt);
+      is_finite = tt;
+      appending = appended c.loop-group.invariant.appending c.extend.new.self _ _ (next_list c.in-Some.ensures.steps c.in-Some-list.part c.in-Some-list.is) c.extend.ensures.same_slice held c.extend.ensures.spare;
+    }
 
-pub returns : goal.returns
-returns g c =
-    let rows = c.rows-i-end.ensures in
-    let end : c.loop-i.i ≡ column_rows c.args.column.now = omega arith in
-    let all = ap (merged_records (row_valid c.args.column.now.map) c.args.column.now.offsets.now (cells_in c.args.column.now.cells) c.args.groups.now) end in
-    let w = subst (Written c.args.store.now c.loop-i.store c.args.held c.loop-i.at) all c.loop-i.invariant in
-    record { count = w.count; stored = w.stored }
+pub returns-clause-values : goal.returns-clause-values
+returns-clause-values g c =
+    all_appended c.loop-group.invariant.appending (no_list _ _ (⊎_elim (λ e. inl e.1.0) (λ e. inr e.1.0) c.in-None.ensures.steps))
+    ∙ ap (λ records. values c.args.store.now ++ records) (sym (column_brought c.args.column.now c.args.groups.now c.requires.groups))
+
+pub returns-clause-len : goal.returns-clause-len
+returns-clause-len g c = length_appended c.args.store.now c.loop-group.store (column_records c.args.column.now c.args.groups.now) (returns-clause-values g c)

@@ -1,8 +1,13 @@
-use Rattle.bitmap.specs.Maps.{row_valid}
-use Rattle.columns.specs.Columns.{cells_in}
-use Rattle.records.specs.Batches.{merged_records}
-use Rattle.records.proofs.Writing.{Written}
+use Rattle.std.specs.Iterator.Adapters.{zip_first, zip_second}
+use Rattle.std.specs.Slice.Iter.{iter_rest}
+use Rattle.columns.specs.Steps.{lists_in, lists_left}
+use Rattle.records.proofs.Appending.{Appending}
+use Rattle.records.proofs.Merging.{brought}
 use Rattle.records.proofs.merge.append_merged.Given as goal
 
-abbrev pub invariant-loop-i : goal.invariant-loop-i
-invariant-loop-i g l = Written l.initial.store l.store l.held l.at (merged_records (row_valid l.column.map) l.column.offsets.now (cells_in l.column.cells) l.groups l.i)
+abbrev pub invariant-loop-group : goal.invariant-loop-group
+invariant-loop-group g l = record {
+  can_next : (goal.iterator-loop-group g).can_next l.group-iterator;
+  is_finite : (goal.iterator-loop-group g).is_finite l.group-iterator;
+  appending : Appending l.initial.store l.store (brought l.groups (lists_in l.column)) (brought (iter_rest (zip_first l.group-iterator)) (lists_left (zip_second l.group-iterator)));
+}

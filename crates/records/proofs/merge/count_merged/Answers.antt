@@ -1,37 +1,25 @@
-use Rattle.std.proofs.Common.{◌≡◌, ℕ, ◌+◌, [], length, ap, ◌∙◌, arith, rules}
-use Rattle.bitmap.specs.Maps.{row_valid}
-use Rattle.columns.specs.Columns.{cells_in, column_rows, part_cells}
-use Rattle.records.specs.Batches.{merged_records}
-use Rattle.records.proofs.Merging.{counted_none, counted_some, length_merged, merged_fits}
+use Rattle.std.proofs.Common.{arith, length, ap, ◌∙◌, [], rules, tests}
+use Rattle.std.proofs.lemmas.Iterator.{YieldsList-from_map}
+use Rattle.std.proofs.lemmas.Iterator.Consumers.{YieldsList-at, sum_by_from_yields_List, fits_by_from_yields_list}
+use Rattle.std.specs.List.{flat_map}
+use Rattle.std.specs.Option.{option_to_list}
+use Rattle.columns.specs.Steps.{lists_in, lists_left}
+use Rattle.records.proofs.Counting.{parts_yielded}
+use Rattle.records.proofs.Merging.{column_counted, column_few}
 use Rattle.records.proofs.merge.count_merged.Goals as goal
-use Rattle.records.proofs.merge.count_merged.Goals.{in-Some, in_default}
 
-pub overflow_add-count : goal.overflow_add-count
-overflow_add-count g c =
-    let rows = c.rows-i-end.ensures in
-    let long = c.len-count.ensures in
-    let inv = c.loop-i.invariant in
-    let more = counted_some (row_valid c.args.column.now.map) c.args.column.now.offsets.now (cells_in c.args.column.now.cells) [] c.loop-i.i (part_cells c.in-Some.part) c.in-Some.ensures in
-    let fits = merged_fits c.args.column.now [] (c.loop-i.i + 1) (omega arith) in
-    search rules
-
-pub loop-i-preserved : goal.loop-i-preserved
-loop-i-preserved g c =
-    let inv = c.loop-i.invariant in
-    elim c.match-row_at.branch [
-      | in-Some w ↦
-          let long = w.len-count.ensures in
-          let more = counted_some (row_valid c.args.column.now.map) c.args.column.now.offsets.now (cells_in c.args.column.now.cells) [] c.loop-i.i (part_cells w.in-Some.part) w.in-Some.ensures in
-          rw w.count-is (omega arith)
-      | in_default w ↦
-          let same = counted_none (row_valid c.args.column.now.map) c.args.column.now.offsets.now (cells_in c.args.column.now.cells) [] c.loop-i.i w.in_default.ensures in
-          rw w.count-is (omega arith)
-    ]
+pub sum-requires-clause-fits : goal.sum-requires-clause-fits
+sum-requires-clause-fits g c =
+    let column = c.args.column.now in
+    fits_by_from_yields_list length (flat_map option_to_list (lists_in column)) c.map.result _
+    (YieldsList-from_map _ length (YieldsList-at c.map.ensures.source (parts_yielded _ c.flatten.result column (λ list o b. b.0) (ap lists_left c.flatten.ensures.source ∙ c.iter.ensures) c.flatten.ensures.front c.flatten.ensures.back c.flatten.ensures.done))
+    c.map.ensures.closure (λ x r q k. search (rules, tests)))
+    (omega (arith, column_counted column [], column_few column []))
 
 pub returns : goal.returns
 returns g c groups =
-    let rows = c.rows-i-end.ensures in
-    let end : c.loop-i.i ≡ column_rows c.args.column.now = omega arith in
-    c.loop-i.invariant
-    ∙ ap (λ (k : ℕ). length (merged_records (row_valid c.args.column.now.map) c.args.column.now.offsets.now (cells_in c.args.column.now.cells) [] k)) end
-    ∙ length_merged (row_valid c.args.column.now.map) c.args.column.now.offsets.now (cells_in c.args.column.now.cells) [] groups (column_rows c.args.column.now)
+    let column = c.args.column.now in
+    sum_by_from_yields_List length (flat_map option_to_list (lists_in column)) c.map.result c.sum.result c.sum.ensures.ran
+    (YieldsList-from_map _ length (YieldsList-at c.map.ensures.source (parts_yielded _ c.flatten.result column (λ list o b. b.0) (ap lists_left c.flatten.ensures.source ∙ c.iter.ensures) c.flatten.ensures.front c.flatten.ensures.back c.flatten.ensures.done))
+    c.map.ensures.closure (λ x r q k. search (rules, tests)))
+    ∙ column_counted column groups

@@ -1,11 +1,7 @@
-use Rattle.std.proofs.Common.{ℕ, sym, subst, ⊎_elim, arith}
-use Rattle.std.proofs.lemmas.Bool.{cases_eq}
-use Rattle.columns.specs.Merging.{RowWhole}
+use Rattle.std.proofs.Common.{rules}
+use Rattle.columns.specs.Merging.{RowCovers, RowWhole}
+use Rattle.columns.proofs.Ranges.{all_between}
 use Rattle.columns.proofs.column.ListColumn.whole_between.Goals as goal
 
-pub loop-i-preserved : goal.loop-i-preserved
-loop-i-preserved g c k low high =
-    ⊎_elim
-    (λ e. subst (λ (x : ℕ). RowWhole c.args.self.now x) (sym e) c.if-not-row_whole.ensures)
-    (λ ne. c.loop-i.invariant k low (omega arith))
-    (cases_eq k c.loop-i.i)
+pub returns : goal.returns
+returns g c = all_between (RowWhole c.args.self.now) (RowCovers c.args.self.now) _ (λ i q h. search rules) (λ i q h. search rules) _ _ c.all.result c.all.ensures.ran
