@@ -21,11 +21,10 @@ const LENGTHS: usize = 18;
 
 // The map's rows are these flags, and no more.
 fn same_rows(rt: &impl Abort, map: &Validity, flags: &[bool]) {
-    let mut nulls: usize = 0;
     for (i, flag) in flags.iter().enumerate() {
         assert_eq!(rt; map.is_valid(i), Ok(*flag));
-        nulls = nulls.saturating_add(!*flag as usize);
     }
+    let nulls = flags.iter().filter(|flag| !**flag).count();
     assert_eq!(rt; map.is_valid(flags.len()), Err(Refusal::IndexOutOfRange));
     assert_eq!(rt; map.rows(), flags.len());
     assert_eq!(rt; map.null_count(), nulls);

@@ -37,6 +37,7 @@ impl<'a, K: Copy> ListColumn<'a, K> {
         self.map.is_valid(i).unwrap_or(false)
     }
 
+    // Two functions, this and the next, for one search in either direction: what each answers is stated by its direction.
     fn first_valid(&self) -> Option<usize>
         ensures { MatchOption result ((k : ℕ) → k < column_rows self.now → row_valid self.now.map k ≡ false)
             (λ i. (i < column_rows self.now) × (row_valid self.now.map i ≡ true) × ((k : ℕ) → k < i → row_valid self.now.map k ≡ false)) }

@@ -48,7 +48,7 @@ pub struct Batch<'a, K> {
 }
 
 impl<'a, K: Copy> Batch<'a, K> {
-    // How many rows are accepted.
+    // How many rows are accepted. The chain stands again in `append_to`: one of closures has no type that a function could answer.
     pub fn count(&self) -> usize
         ensures { result ≡ length (batch_records self.now) }
     {
