@@ -12,6 +12,7 @@ pub struct CellParts<'a, K> {
     pub cues: &'a [K],
 }
 
+// The cells that were passed, checked but not copied.
 #[derive(Drop)]
 pub struct Cells<'a, K> {
     pub(crate) map: Validity<'a>,

@@ -24,7 +24,7 @@ impl<K: Keyed> Keyed for Option<K> {
         None
     }
 
-    // By the kind's equality, which that of an Option of bits may be finer than.
+    // Two cues are equal as their kind says; a derived equality would compare their bits.
     fn equal(&self, other: &Option<K>) -> bool {
         match (self, other) {
             (None, None) => true,
