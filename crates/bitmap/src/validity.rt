@@ -2,6 +2,7 @@
 ghost use Rattle.std.specs.Prelude.{◌≤◌, length};
 ghost use Rattle.bitmap.specs.Bits.{bytes_for};
 
+// The number of rows stands beside the bytes, which hold eight rows each and may be more than the rows need.
 #[derive(Clone, Copy)]
 pub struct Validity<'a> {
     pub(crate) bytes: &'a [u8],

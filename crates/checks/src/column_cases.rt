@@ -56,8 +56,7 @@ fn batches_are_read_into_cells(rt: HostRuntime) -> Result<(), Fail> {
 }
 
 fn batch_outcome(rows: usize, map: &[u8], cues: &[i8]) -> Result<(), Refusal> {
-    Cells::new(CellParts { rows, map, cues })?;
-    Ok(())
+    Cells::new(CellParts { rows, map, cues }).map(|_| ())
 }
 
 #[test]
@@ -223,6 +222,6 @@ fn outcome<'a>(
         offsets,
         map,
         cells,
-    })?;
-    Ok(())
+    })
+    .map(|_| ())
 }

@@ -21,7 +21,7 @@ impl Coarse {
     }
 }
 
-// Of two neighbours, 2n and 2n + 1, each is as good as the other.
+// Of two neighbours, 2n and 2n + 1, each is as good as the other, which no derive says.
 impl Keyed for Coarse {
     ghost empty = { record { value = 0 } };
 

@@ -16,7 +16,7 @@ cells_from valid i (cue ∷ cues) = then_some (valid i) cue ∷ cells_from valid
 abbrev pub passed_cells : {K : Type 0} → CellParts K → List (Option K)
 passed_cells p = cells_from (valid_at p.map.now) 0 p.cues.now
 
--- as many cues as are said, and a map for them
+-- as many cues as rows, and a map for them
 abbrev pub level_checks : {K : Type 0} → CellParts K → Checks
 level_checks p = (not (length p.cues.now == p.rows), CountsDiffer) ∷ map_checks p.map.now p.rows
 

@@ -37,6 +37,7 @@ impl<'a, K: Copy> ListColumn<'a, K> {
         self.map.is_valid(i).unwrap_or(false)
     }
 
+    // The first row that is valid. One text for this and the last would take the direction, and state both answers by it.
     fn first_valid(&self) -> Option<usize>
         ensures { MatchOption result ((k : ℕ) → k < column_rows self.now → row_valid self.now.map k ≡ false)
             (λ i. (i < column_rows self.now) × (row_valid self.now.map i ≡ true) × ((k : ℕ) → k < i → row_valid self.now.map k ≡ false)) }
@@ -44,6 +45,7 @@ impl<'a, K: Copy> ListColumn<'a, K> {
         (0..self.rows()).find(|i| self.row_valid(*i))
     }
 
+    // The last row that is valid.
     fn last_valid(&self) -> Option<usize>
         ensures { MatchOption result ((k : ℕ) → k < column_rows self.now → row_valid self.now.map k ≡ false)
             (λ i. (i < column_rows self.now) × (row_valid self.now.map i ≡ true) × ((k : ℕ) → i < k → k < column_rows self.now → row_valid self.now.map k ≡ false)) }

@@ -4,7 +4,7 @@ ghost use Rattle.bitmap.specs.Maps.{row_count};
 
 use bitmap::Validity;
 
-// What a caller passes for cells, unchecked: how many there are, a validity map and the cues.
+// What a caller passes for cells, unchecked: how many there are, a validity map and the cues, apart as the format has them.
 #[derive(Clone, Copy)]
 pub struct CellParts<'a, K> {
     pub rows: usize,
@@ -12,6 +12,7 @@ pub struct CellParts<'a, K> {
     pub cues: &'a [K],
 }
 
+// The cells that were passed, checked but not copied.
 #[derive(Drop)]
 pub struct Cells<'a, K> {
     pub(crate) map: Validity<'a>,

@@ -7,7 +7,7 @@ use crate::cells::{CellParts, Cells};
 use bitmap::Validity;
 
 // What a caller passes for a list column, unchecked: how many rows, the offsets, a validity map for the rows, and the cells
-// behind the lists.
+// behind the lists, apart as the format has them.
 #[derive(Clone, Copy)]
 pub struct ColumnParts<'a, K> {
     pub rows: usize,
@@ -25,7 +25,8 @@ pub struct ListColumn<'a, K> {
     ghost good: { GoodOffsets offsets.now (row_count map) (length cells.cues.now) },
 }
 
-// A part of the cells behind a column's lists, not copied: the row of its first cell, the map of all the cells, and its cues.
+// A part of the cells behind a column's lists, not copied and so with cues beside a map: the row of its first cell, the map of
+// all the cells, and its cues.
 #[derive(Clone, Copy)]
 pub struct Part<'a, K> {
     pub place: usize,

@@ -26,7 +26,8 @@ impl<'a, K: Copy> Iterator for CellIter<'a, K> {
     }
 }
 
-// The lists that are left of a column.
+// The lists that are left of a column. It looks like the iterator of cells; one text for both would need a trait for what each
+// reads, with its laws.
 #[derive(Clone, Drop)]
 pub struct ListIter<'a, K> {
     pub(crate) column: &'a ListColumn<'a, K>,

@@ -16,6 +16,7 @@ them, and rows filtered out. A sheet that breaks a rule of the format prints
 
 Status: 0 where the sheet is good, 1 where it is refused or cannot be read.";
 
+// An Option of an error would do, but `?` asks for a From, which only a type of ours can have.
 enum Stop {
     // the reason has been printed
     Told,

@@ -6,8 +6,8 @@ use Rattle.bitmap.specs.Maps.{MapWritten}
 use Rattle.records.specs.Lists.{cell_valid, cue_of}
 use Rattle.emit.specs.declared.cells.CellBuffers.{CellBuffers}
 use Rattle.emit.specs.Buffers.{SameBuffers}
-use Rattle.emit.specs.Marks.{Marked}
-use Rattle.emit.proofs.Marking.{Clear, Within, clear_rows, marked_clear, within_more, within_none, written_bits}
+use Rattle.emit.specs.Marks.{Clear, Marked}
+use Rattle.emit.proofs.Marking.{Within, clear_rows, marked_clear, within_more, within_none, written_bits}
 use Rattle.emit.proofs.Placing.{Upto, front_all, upto_more, upto_none}
 
 pub same_refl : {K : Type 0} (b : CellBuffers K) → SameBuffers b b

@@ -11,7 +11,7 @@ use Rattle.bitmap.specs.Maps.{MapWritten}
 use Rattle.bitmap.proofs.Filled.{byte_of}
 use Rattle.std.specs.Prelude.{unwrap_or}
 use Rattle.records.specs.Lists.{cue_of}
-use Rattle.emit.specs.Marks.{Marked}
+use Rattle.emit.specs.Marks.{Clear, Marked}
 
 bit_value : (t p : ℕ) → t < 2 → ◌≡◌ {A = ℕ} (cond (eqb t 1) p 0) (t * p)
 bit_value zero p h = omega arith
@@ -161,10 +161,6 @@ marked_or xs i h fits = record {
         ∙ ap (λ (x : ℕ). eqb (x / 2 ^ (j % 8) % 2) 1) (get_or-set_same xs (i / 8) byte 0 h ∙ ap (bit_or (get_or xs (i / 8) 0)) whole)
         ∙ ap (λ (x : ℕ). eqb x 1) (or_bit (get_or xs (i / 8) 0) (1 * 2 ^ (i % 8)) (j % 8) ∙ ap (bit_or (get_or xs (i / 8) 0 / 2 ^ (j % 8) % 2)) (power_bit (i % 8) (j % 8) apart) ∙ or_zero_r _)
         ∙ ap (λ (x : ℕ). eqb (get_or xs x 0 / 2 ^ (j % 8) % 2) 1) (sym e)
-
--- the bytes of a map that is clear
-abbrev pub Clear : ℕ → List ℕ → Type 0
-Clear rows bytes = (k : ℕ) → k < bytes_for rows → get_or bytes k 0 ≡ 0
 
 pub clear_rows : (rows : ℕ) (bytes : List ℕ) → Clear rows bytes → (i : ℕ) → i < 8 * bytes_for rows → valid_at bytes i ≡ false
 clear_rows rows bytes h i l = ap (λ (x : ℕ). eqb (x / 2 ^ (i % 8) % 2) 1) (h (i / 8) (omega arith)) ∙ ap (λ (q : ℕ). eqb (q % 2) 1) (zero-div (2 ^ (i % 8)))

@@ -1,4 +1,4 @@
--- The buffers that a struct lends.
+-- The lent buffers that a struct holds.
 use Rattle.std.specs.Prelude.{◌≡◌, length}
 use Rattle.emit.specs.declared.cells.CellBuffers.{CellBuffers}
 

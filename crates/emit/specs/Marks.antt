@@ -1,6 +1,10 @@
--- One bit of a validity map is marked.
+-- A validity map that is clear, and one of whose bits is marked.
 use Rattle.std.specs.Prelude.{◌≡◌, ℕ, ◌/◌, ◌<◌, Bool, ◌||◌, List, ◌≢◌, slice_index}
-use Rattle.bitmap.specs.Bits.{valid_at}
+use Rattle.bitmap.specs.Bits.{bytes_for, valid_at}
+
+-- no row of the first so many is valid, nor is a spare bit set
+abbrev pub Clear : ℕ → List ℕ → Type 0
+Clear rows map = (k : ℕ) → k < bytes_for rows → slice_index map k ≡ 0
 
 -- row i is valid if b says so or it was valid before; the other rows are as they were, and so are the bytes without row i
 pub record Marked (b : Bool) (i : ℕ) (before after : List ℕ) : Type 0 where

@@ -1,4 +1,6 @@
-// The buffers that cells are written to: a map, cleared first and then marked bit by bit, and a cue for each cell.
+// The buffers that cells are written to: a map, cleared first and then marked bit by bit, and a cue for each cell, apart as the
+// format has them. That there is room, and that the map is clear, each call asks for as many cells as it writes, which no type
+// of the buffers can say.
 ghost use Rattle.std.specs.Prelude.{◌≡◌, ◌/◌, ◌<◌, ◌≤◌, not, ◌++◌, length, drop, replicate, slice_set, is_none};
 ghost use Rattle.bitmap.specs.Bits.{bytes_for};
 ghost use Rattle.records.specs.Lists.{cue_of};

@@ -1,9 +1,10 @@
 // One list of the store.
-ghost use Rattle.std.specs.Prelude.{◌≡◌, ℕ, ◌<◌, ◌≤◌, ◌++◌, map, length, drop, slice_index};
+ghost use Rattle.std.specs.Prelude.{◌≡◌, ℕ, ◌<◌, ◌≤◌, ◌++◌, map, length, drop};
 ghost use Rattle.bitmap.specs.Bits.{bytes_for};
 ghost use Rattle.bitmap.specs.Maps.{MapWritten};
 ghost use Rattle.records.specs.Lists.{cell_valid, cue_of};
 ghost use Rattle.records.specs.Records.{list_of};
+ghost use Rattle.emit.specs.Marks.{Clear};
 ghost use Rattle.emit.specs.Buffers.{SameBuffers};
 
 use crate::cells::CellBuffers;
@@ -15,7 +16,7 @@ use records::Record;
 fn copy_cells<K: Keyed>(records: &[Record<K>], j: u32, cells: &mut CellBuffers<K>)
     requires room { length (list_of j records.now) ≤ length cells.old.cues.now }
     requires bytes { bytes_for (length (list_of j records.now)) ≤ length cells.old.map.now }
-    requires clear { (k : ℕ) → k < bytes_for (length (list_of j records.now)) → slice_index cells.old.map.now k ≡ 0 }
+    requires clear { Clear (length (list_of j records.now)) cells.old.map.now }
     ensures same { SameBuffers cells.old cells.new }
     ensures cues { cells.new.cues.now ≡ map (cue_of K.Keyed.empty) (list_of j records.now) ++ drop (length (list_of j records.now)) cells.old.cues.now }
     ensures marks { MapWritten (cell_valid (list_of j records.now)) (length (list_of j records.now)) cells.old.map.now cells.new.map.now }

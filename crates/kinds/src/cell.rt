@@ -24,6 +24,7 @@ impl<K: Keyed> Keyed for Option<K> {
         None
     }
 
+    // Two cues are equal as their kind says; a derived equality would compare their bits.
     fn equal(&self, other: &Option<K>) -> bool {
         match (self, other) {
             (None, None) => true,

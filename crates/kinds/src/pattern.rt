@@ -62,6 +62,7 @@ impl Ordered for Pattern {
 
     ghost chain = { λ a b c h k. total_chain a.bits b.bits c.bits h k };
 
+    // A derived order would be that of the bits as a number.
     fn compare(&self, other: &Pattern) -> Ordering {
         rank(self.bits).cmp(&rank(other.bits))
     }

@@ -1,7 +1,8 @@
 // A text cue: 0 to 16 bytes, in byte order.
 ghost use Rattle.std.specs.Prelude.{◌≡◌, ◌-◌, ◌≤◌, drop, replicate};
 
-// Spare bytes are zero, so that equal texts are the same value.
+// Spare bytes are zero, so that equal texts are the same value. The number stands beside the bytes, since nothing here may take
+// memory as a String does.
 #[derive(Clone, Copy, PartialEq, Eq, Debug)]
 pub struct Text {
     pub(crate) bytes: [u8; 16],

@@ -39,7 +39,7 @@ impl<'a> Filter<'a> {
     }
 }
 
-// The rows of a batch, each a cell for a group, and which of them are accepted.
+// The rows of a batch, each a cell for a group, and which of them are accepted. Groups and cells come from the caller apart.
 #[derive(Clone, Copy)]
 pub struct Batch<'a, K> {
     pub filter: Filter<'a>,
@@ -48,7 +48,7 @@ pub struct Batch<'a, K> {
 }
 
 impl<'a, K: Copy> Batch<'a, K> {
-    // How many rows are accepted.
+    // How many rows are accepted. The chain stands again in `append_to`, since no function can answer a chain with a closure in it.
     pub fn count(&self) -> usize
         ensures { result ≡ length (batch_records self.now) }
     {

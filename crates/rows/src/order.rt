@@ -15,7 +15,7 @@ pub struct SortOptions {
 }
 
 impl SortOptions {
-    // How a null stands to a cue.
+    // How a null stands to a cue. No derive says it, since the options are values.
     fn null_to_cue(self) -> Ordering
         ensures { result ≡ (if self.nulls_first then Less else Greater) }
     {

@@ -8,6 +8,7 @@ ghost use Rattle.sheets.specs.Reading.{rows_at, rows_from};
 use crate::row::{Row, WORD_LIMIT, module_of};
 use crate::rows::Rows;
 
+// Words and cues are apart, as in the bytes.
 #[derive(Clone, Copy)]
 pub(crate) struct Body<'a> {
     pub(crate) words: &'a [[u8; 4]],
@@ -59,8 +60,8 @@ impl<'a> Body<'a> {
         }
     }
 
-    // Whether no word has a bit set that means nothing. One method for this test and the next would have to say what a test
-    // computes, and be no plainer.
+    // Whether no word has a bit set that means nothing. One method for this test and the next would have to state what the test
+    // that it is given computes, and be no plainer.
     pub(crate) fn words_known(&self) -> bool
         ensures { result ≡ list_all (λ w. nat_lt w 262144) (map (from_le_bytes w32) self.now.words.now) }
     {

@@ -4,6 +4,7 @@ ghost use Rattle.sheets.specs.Reading.{rows_from};
 
 use crate::row::Row;
 
+// They shrink as rows are taken, words and cues together as the format has them; a body would have to be made again each time.
 #[derive(Drop)]
 pub(crate) struct Rows<'a> {
     pub(crate) words: &'a [[u8; 4]],

@@ -24,6 +24,6 @@ values q = live q.start q.len q.slots.now
 abbrev pub WritesTo : {X : Type 0} → SliceDeque X → MutBor (List X) → Type 0
 WritesTo q slots = q.slots.ghost_name ≡ slots.ghost_name
 
--- and later it still does
+-- a ring still writes through the reference that it wrote through before
 abbrev pub KeepsSlice : {X : Type 0} → SliceDeque X → SliceDeque X → Type 0
 KeepsSlice old new = new.slots.ghost_name ≡ old.slots.ghost_name

@@ -23,6 +23,6 @@ spare_places v = drop v.len v.slots.now
 abbrev pub WritesTo : {X : Type 0} → SliceVec X → MutBor (List X) → Type 0
 WritesTo v slots = v.slots.ghost_name ≡ slots.ghost_name
 
--- and later it still does
+-- a vector still writes through the reference that it wrote through before
 abbrev pub KeepsSlice : {X : Type 0} → SliceVec X → SliceVec X → Type 0
 KeepsSlice old new = new.slots.ghost_name ≡ old.slots.ghost_name

@@ -36,6 +36,7 @@ impl<'a, T> SliceDeque<'a, T> {
         self.start
     }
 
+    // This and the next are those of a `SliceVec`, written again: a trait for the two would be no plainer.
     pub fn len(&self) -> usize
         ensures { result ≡ slice_deque_len self.now }
     {
@@ -59,7 +60,7 @@ impl<'a, T> SliceDeque<'a, T> {
     }
 
     // The place that lies k places on from the first value's.
-    fn place_at(&self, k: usize) -> usize
+    pub fn place_at(&self, k: usize) -> usize
         requires { k ≤ length (places self.now) }
         ensures value { result ≡ place_at (length (places self.now)) (slice_deque_start self.now) k }
         ensures bound { result ≤ length (places self.now) - 1 }
