@@ -1,4 +1,5 @@
-// Containers over a slice that the caller lends: a vector and a ring.
+// Containers over a slice that the caller lends: a vector and a ring. They are working parts for the crates above, which check
+// what each call asks.
 #![tactic(auto)]
 
 mod slice_deque;
