@@ -5,10 +5,10 @@ use Rattle.std.proofs.lemmas.Bool.{cases_lt, cond-true, cond-false, lt-ltb, le-l
 use Rattle.std.proofs.Math.Seq.{drop-append-add, take-set-lt}
 use Rattle.slices.specs.Rings.{live, place_at}
 
-place_near : (slots start k : ℕ) → start + k < slots → place_at slots start k ≡ start + k
+pub place_near : (slots start k : ℕ) → start + k < slots → place_at slots start k ≡ start + k
 place_near slots start k h = cond-true (ltb (start + k) slots) _ _ (lt-ltb (start + k) slots h)
 
-place_far : (slots start k : ℕ) → slots ≤ start + k → place_at slots start k ≡ start + k - slots
+pub place_far : (slots start k : ℕ) → slots ≤ start + k → place_at slots start k ≡ start + k - slots
 place_far slots start k h = cond-false (ltb (start + k) slots) _ _ (le-ltb (start + k) slots h)
 
 abbrev turned : {X : Type 0} → ℕ → List X → List X

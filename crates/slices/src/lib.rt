@@ -2,8 +2,10 @@
 // what each call asks.
 #![tactic(auto)]
 
+mod ring;
 mod slice_deque;
 mod slice_vec;
 
+pub use ring::{place_at, skip};
 pub use slice_deque::SliceDeque;
 pub use slice_vec::SliceVec;

@@ -1,6 +1,8 @@
 // A ring in a lent slice: values come in behind the last and go from the front, and none moves.
 ghost use Rattle.std.specs.Prelude.{◌-◌, ◌≤◌, length};
 
+use crate::ring::place_at;
+
 #[derive(Drop)]
 pub struct SliceDeque<'a, T> {
     pub(crate) slots: &'a mut [T],
@@ -65,8 +67,7 @@ impl<'a, T> SliceDeque<'a, T> {
         ensures value { result ≡ place_at (length (places self.now)) (slice_deque_start self.now) k }
         ensures bound { result ≤ length (places self.now) - 1 }
     {
-        let room = self.capacity() - self.start;
-        if k < room { self.start + k } else { k - room }
+        place_at(self.capacity(), self.start, k)
     }
 
     // Lets the first k values go.
