@@ -21,7 +21,7 @@ nulls_and_valid [] = refl
 nulls_and_valid (true ∷ vs) = omega (arith, sum_by-cons (λ x. cond (not x) 1 0) true vs, sum_by-cons (λ x. cond x 1 0) true vs, nulls_and_valid vs)
 nulls_and_valid (false ∷ vs) = omega (arith, sum_by-cons (λ x. cond (not x) 1 0) false vs, sum_by-cons (λ x. cond x 1 0) false vs, nulls_and_valid vs)
 
-nulls_are : (xs : List ℕ) (n : ℕ) → count_by not (map (valid_at xs) (range_with_len 0 n)) + valid_in xs n ≡ n
+pub nulls_are : (xs : List ℕ) (n : ℕ) → count_by not (map (valid_at xs) (range_with_len 0 n)) + valid_in xs n ≡ n
 nulls_are xs n = nulls_and_valid (map (valid_at xs) (range_with_len 0 n)) ∙ length-map-range_with_len (valid_at xs) 0 n
 
 -- a bit counts itself
@@ -37,7 +37,7 @@ ones_more b j =
     ap (λ (x : ℕ). ones (b % 2 ^ x)) (sym (one-add j)) ∙ ap ones (mod-pow-add b 1 j) ∙ ones_cat j (b / 2 ^ j % 2) (b % 2 ^ j) (mod_below b (2 ^ j) (pow_pos j))
 
 -- the first j rows of byte k
-valid_part : (xs : List ℕ) (k j : ℕ) → j ≤ 8 → valid_in xs (8 * k + j) ≡ valid_in xs (8 * k) + ones (get_or xs k 0 % 2 ^ j)
+pub valid_part : (xs : List ℕ) (k j : ℕ) → j ≤ 8 → valid_in xs (8 * k + j) ≡ valid_in xs (8 * k) + ones (get_or xs k 0 % 2 ^ j)
 valid_part xs k zero h =
     let none : get_or xs k 0 % 1 ≡ 0 = omega arith in
     omega (arith, ap (valid_in xs) (add-zero (8 * k)), ap ones none, ones-ones 0)
