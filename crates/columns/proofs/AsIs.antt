@@ -1,6 +1,7 @@
 -- What is given as the part to merge as it stands, from where the first and the last valid row are.
-use Rattle.std.proofs.Common.{◌≡◌, ℕ, ◌+◌, ◌-◌, ◌<◌, ◌≤◌, Bool, true, false, cond, not, eqb, List, map, length, ℤ, Some, None, sym, ap, ◌∙◌, subst, inl, ⊎_elim, arith}
+use Rattle.std.proofs.Common.{◌≡◌, ℕ, ◌+◌, ◌-◌, ◌<◌, ◌≤◌, Bool, true, false, cond, not, eqb, List, map, length, ℤ, Option, Some, None, MatchOption, sym, ap, ◌∙◌, subst, inl, ⊎_elim, arith}
 use Rattle.std.specs.List.{range_with_len, between}
+use Rattle.std.specs.Option.{unwrap_or}
 use Rattle.std.proofs.lemmas.List.FromFn.{get_or-map-range_with_len, length-map-range_with_len}
 use Rattle.std.proofs.lemmas.List.Edits.{between_none}
 use Rattle.std.proofs.lemmas.List.Sums.{count_by-le-length, get_or-le-sum_by}
@@ -67,7 +68,7 @@ module _ {K : Type 0} (c : ListColumn K) (p : Part K) where
       (to, span ∙ ap (λ (x : ℕ). Some (x, to)) (sym part.place), subst (λ (x : ℕ). PartOf c x to p) (sym part.place) part)
 
   -- all rows outside a stretch of rows are null, and no null row inside it covers a cell
-  joined_rows : (from to low high : ℕ) → from ≤ to → to ≤ column_rows c → ((k : ℕ) → k < from → row_valid c.map k ≡ false) → ((k : ℕ) → to ≤ k → k < column_rows c → row_valid c.map k ≡ false)
+  pub joined_rows : (from to low high : ℕ) → from ≤ to → to ≤ column_rows c → ((k : ℕ) → k < from → row_valid c.map k ≡ false) → ((k : ℕ) → to ≤ k → k < column_rows c → row_valid c.map k ≡ false)
       → ((k : ℕ) → from ≤ k → k < to → RowWhole c k) → low ≡ start_of c.offsets.now from → high ≡ start_of c.offsets.now to → PartOf c low high p → Joined c p
   joined_rows from to low high l r before after inside low-is high_is part = (
     part.cells ∙ ap (λ (x : ℕ). between x high (cells_in c.cells)) low-is ∙ ap (λ (x : ℕ). between (start_of c.offsets.now from) x (cells_in c.cells)) high_is
@@ -92,6 +93,11 @@ IsFirst c i = (i < column_rows c) × (row_valid c.map i ≡ true) × ((k : ℕ) 
 
 abbrev pub IsLast : {K : Type 0} → ListColumn K → ℕ → Type 0
 IsLast c i = (i < column_rows c) × (row_valid c.map i ≡ true) × ((k : ℕ) → i < k → k < column_rows c → row_valid c.map k ≡ false)
+
+-- where there is a first valid row, the search for the last one finds it
+pub last_found : {K : Type 0} (c : ListColumn K) (first : ℕ) → IsFirst c first → (found : Option ℕ) → MatchOption found ((k : ℕ) → k < column_rows c → row_valid c.map k ≡ false) (IsLast c) → IsLast c (unwrap_or found first)
+last_found c first low None none = absurd (both_ways (row_valid c.map first) (none first low.0) low.1)
+last_found c first low (Some last) high = high
 
 module _ {K : Type 0} (c : ListColumn K) (first last : ℕ) (low : IsFirst c first) (high : IsLast c last) where
   pub in_order : first ≤ last
@@ -120,24 +126,27 @@ module _ {K : Type 0} (c : ListColumn K) (first last : ℕ) (low : IsFirst c fir
 
   -- a null row between the two covers one
   module _ (hole : (k : ℕ) × (first ≤ k) × (k < last) × RowCovers c k) where
-    pub gap_there : ColumnGap c
-    gap_there =
-        let after_first : hole.0 ≡ first → ⊥ = λ e. both_ways (row_valid c.map hole.0) hole.3.0 (ap (row_valid c.map) e ∙ low.1) in
-        record {
-          before = first;
-          row = hole.0;
-          after = last;
-          in_order = (omega (arith, hole.1), hole.2, high.0);
-          before_valid = low.1;
-          row_null = hole.3.0;
-          row_covers = hole.3.1;
-          after_valid = high.1;
-        }
-
     pub gap_none : column_span c ≡ None
     gap_none =
         span_gap (row_valid c.map) c.offsets.now (column_rows c) first (last + 1) low.0 first_is past_is
         (whole_not (row_valid c.map) c.offsets.now first (last + 1) hole.0 hole.1 (omega (arith, hole.2)) hole.3.0 hole.3.1)
+
+-- a null row between two valid ones covers a cell
+pub gap_there : {K : Type 0} (c : ListColumn K) (first past : ℕ) → row_valid c.map first ≡ true → past ≤ column_rows c → row_valid c.map (past - 1) ≡ true
+    → (k : ℕ) → first ≤ k → k < past → RowCovers c k → ColumnGap c
+gap_there c first past low under high k from to covers =
+    let after_first : k ≡ first → ⊥ = λ e. both_ways (row_valid c.map k) covers.0 (ap (row_valid c.map) e ∙ low) in
+    let before_last : k ≡ past - 1 → ⊥ = λ e. both_ways (row_valid c.map k) covers.0 (ap (row_valid c.map) e ∙ high) in
+    record {
+      before = first;
+      row = k;
+      after = past - 1;
+      in_order = (omega arith, omega arith, omega arith);
+      before_valid = low;
+      row_null = covers.0;
+      row_covers = covers.1;
+      after_valid = high;
+    }
 
 -- no row is null
 module _ {K : Type 0} (c : ListColumn K) (p : Part K) (from to : ℕ) (all : (k : ℕ) → k < column_rows c → row_valid c.map k ≡ true) (from_is : from ≡ start_of c.offsets.now 0) (to_is : to ≡ start_of c.offsets.now (column_rows c))

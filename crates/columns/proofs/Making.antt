@@ -34,7 +34,7 @@ module _ {K : Type 0} (p : ColumnParts K) where
     ),
   )
 
-  column_decides : Decides (is_ok (unless {T = Unit {0}} (column_checks p) tt)) (GoodColumn p)
+  pub column_decides : Decides (is_ok (unless {T = Unit {0}} (column_checks p) tt)) (GoodColumn p)
   column_decides = (
     λ e. good_from_pass (pass_from_ok {T = Unit {0}} (column_checks p) tt e),
     λ good. ap is_ok (unless_pass {T = Unit {0}} (column_checks p) tt (pass_from_good good)),

