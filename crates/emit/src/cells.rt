@@ -35,8 +35,16 @@ impl<'a, K: Keyed> CellBuffers<'a, K> {
         ensures map { Marked (not (is_none cell)) p self.old.map.now self.new.map.now }
         ensures cues { self.new.cues.now ≡ slice_set self.old.cues.now p (cue_of K.Keyed.empty cell) }
     {
-        self.cues[p] = cell.unwrap_or(K::blank());
-        mark(self.map, p, cell.is_some());
+        match cell {
+            None => {
+                self.cues[p] = K::blank();
+                mark(self.map, p, false);
+            }
+            Some(cue) => {
+                self.cues[p] = cue;
+                mark(self.map, p, true);
+            }
+        }
     }
 }
 
