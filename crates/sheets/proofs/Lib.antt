@@ -1,3 +1,5 @@
 pub mod Bits
 pub mod Chunks
 pub mod Good
+pub mod Left
+pub mod Tally

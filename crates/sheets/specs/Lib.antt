@@ -3,3 +3,4 @@ pub mod Layout
 pub mod Reading
 pub mod Report
 pub mod Sheets
+pub mod Steps

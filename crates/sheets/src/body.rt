@@ -1,5 +1,5 @@
 // A sheet's body: for each row a word and a cue, low byte first.
-ghost use Rattle.std.specs.Prelude.{◌≡◌, ◌↔◌, ◌*◌, ◌%◌, length, map, nat_lt, IfSome, IsSome, slice_get};
+ghost use Rattle.std.specs.Prelude.{◌≡◌, ◌↔◌, ◌*◌, ◌%◌, ◌<◌, length, drop, map, nat_lt, IfSome, IsSome, slice_get};
 ghost use Rattle.std.specs.Int.{w32, from_le_bytes};
 ghost use Rattle.std.specs.List.{list_all};
 ghost use Rattle.sheets.specs.Layout.{words_at};
@@ -12,7 +12,7 @@ use crate::rows::Rows;
 #[derive(Clone, Copy)]
 pub(crate) struct Body<'a> {
     pub(crate) words: &'a [[u8; 4]],
-    cues: &'a [[u8; 8]],
+    pub(crate) cues: &'a [[u8; 8]],
     ghost level: { length cues.now ≡ length words.now },
 }
 
@@ -41,22 +41,25 @@ impl<'a> Body<'a> {
         self.words.len()
     }
 
-    // Row i, if there is one.
+    // Row i, if there is one, and then the next place is a number too.
     pub(crate) fn row(&self, i: usize) -> Option<Row>
-        ensures { result ≡ slice_get (rows_from self.now.words.now self.now.cues.now) i }
+        ensures row { result ≡ slice_get (rows_from self.now.words.now self.now.cues.now) i }
+        ensures next { IfSome result (λ row. i < usize.MAX) }
     {
-        let word = self.words.get(i)?;
-        let cue = self.cues.get(i)?;
-        Some(Row::read(*word, *cue))
+        // There are as many cues as words, so one test serves for both.
+        if i >= self.words.len() {
+            return None;
+        }
+        Some(Row::read(self.words[i], self.cues[i]))
     }
 
     // The rows, one after another.
     pub(crate) fn rows(&self) -> Rows<'a>
-        ensures { rows_from result.words.now result.cues.now ≡ rows_from self.now.words.now self.now.cues.now }
+        ensures { drop result.next (rows_from result.body.words.now result.body.cues.now) ≡ rows_from self.now.words.now self.now.cues.now }
     {
         Rows {
-            words: self.words,
-            cues: self.cues,
+            body: *self,
+            next: 0,
         }
     }
 

@@ -79,17 +79,20 @@ impl<'a> Sheet<'a> {
     pub fn summary(&self) -> Summary
         ensures { result ≡ summary_of (module_count self.now) (sheet_rows self.now) }
     {
+        let mut accepted = 0;
+        let mut nulls = 0;
+        for row in self.body.rows() {
+            if !row.filtered {
+                accepted += 1;
+                nulls += usize::from(row.null);
+            }
+        }
         Summary {
             rows: self.body.len(),
             modules: self.modules,
-            accepted: self.body.rows().filter(|row| !row.filtered).count(),
-            nulls: self
-                .body
-                .rows()
-                .filter(|row| !row.filtered)
-                .filter(|row| row.null)
-                .count(),
-            filtered: self.body.rows().filter(|row| row.filtered).count(),
+            accepted,
+            nulls,
+            filtered: self.body.len() - accepted,
         }
     }
 }

@@ -1,26 +1,28 @@
-// The rows of a body that are still to come.
+// The rows of a body, one after another.
 ghost use Rattle.std.specs.Iterator.{YieldsFirst, item_count};
-ghost use Rattle.sheets.specs.Reading.{rows_from};
+ghost use Rattle.sheets.specs.Steps.{rows_left};
 
+use crate::body::Body;
 use crate::row::Row;
 
-// They shrink as rows are taken, words and cues together as the format has them; a body would have to be made again each time.
+// The next row is known by its place, which words and cues share. Two halves that shrink as rows are taken would be tested twice
+// for each row.
 #[derive(Drop)]
 pub(crate) struct Rows<'a> {
-    pub(crate) words: &'a [[u8; 4]],
-    pub(crate) cues: &'a [[u8; 8]],
+    pub(crate) body: Body<'a>,
+    pub(crate) next: usize,
 }
 
 impl Iterator for Rows<'_> {
     type Item = Row;
 
-    ghost next_gives = { YieldsFirst (λ r. rows_from r.words.now r.cues.now) };
+    ghost next_gives = { YieldsFirst rows_left };
 
-    ghost remaining = { item_count (λ r. rows_from r.words.now r.cues.now) };
+    ghost remaining = { item_count rows_left };
 
     fn next(&mut self) -> Option<Row> {
-        let word = self.words.split_off_first()?;
-        let cue = self.cues.split_off_first()?;
-        Some(Row::read(*word, *cue))
+        let row = self.body.row(self.next)?;
+        self.next += 1;
+        Some(row)
     }
 }
