@@ -100,6 +100,8 @@ fn one_byte_short(rt: &impl Abort, rows: usize) -> Result<(), Fail>
 {
     let bytes = [0xff; 3];
     let short = (rows + 7) / 8 - 1;
+    let read = Validity::new(&bytes[0..short], rows);
+    assert_eq!(rt; read.map_or(0, |map| map.rows()), 0);
     assert_eq!(rt; outcome(&bytes[0..short], rows), Err(Refusal::MapTooShort));
     let mut out = [0xee; 2];
     assert_eq!(rt;
