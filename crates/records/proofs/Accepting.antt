@@ -1,14 +1,12 @@
--- The accepted rows of a batch, as a chain of iterators gives them.
+-- The rows of a batch, as a chain of iterators gives them, and which of them are accepted.
 use Rattle.std.proofs.Common.{◌≡◌, ℕ, Bool, List, cond, filter, length, sum_by, Option, [], map, ◌⊎◌, sym, ap, ◌∙◌}
 use Rattle.std.proofs.lemmas.List.Sums.{length-filter}
 use Rattle.std.proofs.lemmas.Iterator.{YieldsList, YieldsList-from_slice, YieldsList-from_zip}
-use Rattle.std.proofs.lemmas.Iterator.Consumers.{YieldsList-from_enumerate, YieldsList-from_filter, YieldsList-from_first}
+use Rattle.std.proofs.lemmas.Iterator.Consumers.{YieldsList-from_enumerate, YieldsList-from_first}
 use Rattle.std.specs.declared.iter.Enumerate.{Enumerate}
-use Rattle.std.specs.declared.iter.Filter.{Filter}
 use Rattle.std.specs.declared.iter.Zip.{Zip}
-use Rattle.std.specs.Fn.{CalledAt}
 use Rattle.std.specs.Iterator.{YieldsFirst}
-use Rattle.std.specs.Iterator.Adapters.{enumerate_count, enumerate_source, enumerate_steps, filter_callee, filter_source, filter_steps, zip_first, zip_second, zip_steps}
+use Rattle.std.specs.Iterator.Adapters.{enumerate_count, enumerate_source, enumerate_steps, zip_first, zip_second, zip_steps}
 use Rattle.std.specs.List.{enumerate_from, zip}
 use Rattle.std.specs.Slice.Iter.{iter_rest, iter_steps}
 use Rattle.std.proofs.Common.{Iter}
@@ -17,7 +15,6 @@ use Rattle.columns.specs.Steps.{cells_left}
 use Rattle.records.specs.Batches.{accepted_from}
 use Rattle.records.proofs.Laws.{accepts, length_accepted, record_of}
 use Rattle.records.proofs.Merging.{zip_done}
-use denote.Param.Members.{Mut}
 use denote.Ref.{Bor}
 
 -- a row of a batch: its number, its group and its cell
@@ -28,14 +25,6 @@ pub rows_yielded : {K : Type 0} (groups : List ℕ) (cells : List (Option K)) (s
     → iter_rest (zip_first (enumerate_source s)) ≡ groups → cells_left (zip_second (enumerate_source s)) ≡ cells → enumerate_count s ≡ 0
     → YieldsList (enumerate_steps (zip_steps iter_steps (YieldsFirst cells_left))) row_of s (enumerate_from 0 (zip groups cells))
 rows_yielded groups cells s first second count = YieldsList-from_enumerate (YieldsList-from_zip (YieldsList-from_slice groups first) (YieldsList-from_first (λ x. x) cells_left cells second)) count
-
-pub accepted_yielded : {K F : Type 0} (ignore : Bool) (marks : Option (List Bool)) (groups : List ℕ) (cells : List (Option K))
-    (g : Mut F (Bor (ℕ × (Bor ℕ × Option K)) × Unit {0}) Bool) (s : Filter (Enumerate (Zip (Iter ℕ) (CellIter K))) F) (f : F)
-    → iter_rest (zip_first (enumerate_source (filter_source s))) ≡ groups → cells_left (zip_second (enumerate_source (filter_source s))) ≡ cells → enumerate_count (filter_source s) ≡ 0
-    → filter_callee s ≡ f → ((row : ℕ × (Bor ℕ × Option K)) (b : Bool) (q : F) → CalledAt g f row b q → (q ≡ f) × (b ≡ accepts ignore marks (row_of row)))
-    → YieldsList (filter_steps (enumerate_steps (zip_steps iter_steps (YieldsFirst cells_left))) g) row_of s (filter (accepts ignore marks) (enumerate_from 0 (zip groups cells)))
-accepted_yielded ignore marks groups cells g s f first second count callee answers =
-    YieldsList-from_filter g (accepts ignore marks) (rows_yielded groups cells (filter_source s) first second count) callee answers
 
 -- what a row adds to the number of accepted ones
 abbrev pub counts_accepted : {K : Type 0} → Bool → Option (List Bool) → ℕ × (ℕ × Option K) → ℕ

@@ -1,6 +1,5 @@
 -- How many cells the lists of a column have, as a chain of iterators counts them.
-use Rattle.std.proofs.Common.{◌≡◌, ℕ, List, [], ◌∷◌, length, sum_by, false, Option, None, Some, sym, refl, ap, ◌∙◌, subst, arith}
-use Rattle.std.proofs.lemmas.List.Sums.{sum_by-cons}
+use Rattle.std.proofs.Common.{◌≡◌, List, ◌∷◌, length, false, Option, None, sym, ap, ◌∙◌, subst}
 use Rattle.std.proofs.lemmas.Iterator.{YieldsList}
 use Rattle.std.proofs.lemmas.Iterator.Adapters.{YieldsList-from_flatten}
 use Rattle.std.proofs.lemmas.Iterator.Consumers.{YieldsList-from_first, YieldsList-from_shown}
@@ -32,13 +31,3 @@ module _ {K : Type 0} where
       → YieldsList (flatten_steps (YieldsFirstBy (option_map part_cells) lists_left) becomes once_steps) part_cells s (flat_map option_to_list (lists_in c))
   parts_yielded becomes s c is lists front back done =
       YieldsList-from_flatten becomes once_steps part_cells option_to_list (λ list o b. once_by part_cells list o (is list o b)) (YieldsList-from_first (option_map part_cells) lists_left (lists_in c) lists) front back done
-
--- how many cells a list has; a null one has none
-abbrev pub cells_of_list : {K : Type 0} → Option (List (Option K)) → ℕ
-cells_of_list None = 0
-cells_of_list (Some cells) = length cells
-
-pub lists_summed : {K : Type 0} (lists : List (Option (List (Option K)))) → sum_by cells_of_list lists ≡ sum_by length (flat_map option_to_list lists)
-lists_summed [] = refl
-lists_summed (None ∷ lists) = omega (arith, sum_by-cons cells_of_list None lists, lists_summed lists)
-lists_summed (Some cells ∷ lists) = omega (arith, sum_by-cons cells_of_list (Some cells) lists, lists_summed lists, sum_by-cons length cells (flat_map option_to_list lists))

@@ -48,7 +48,7 @@ pub struct Batch<'a, K> {
 }
 
 impl<'a, K: Copy> Batch<'a, K> {
-    // How many rows are accepted. Filtering and counting takes a branch for each row, and half as long again.
+    // How many rows are accepted. Filtering and counting takes a branch for each row, and half as long again or more.
     pub fn count(&self) -> usize
         ensures { result ≡ length (batch_records self.now) }
     {
@@ -60,7 +60,8 @@ impl<'a, K: Copy> Batch<'a, K> {
             .sum()
     }
 
-    // Appends the records of the accepted rows, in the order of the rows.
+    // Appends the records of the accepted rows, in the order of the rows. A chain that filters and is handed to `extend` took half
+    // as long again.
     pub fn append_to(&self, store: &mut SliceVec<Record<K>>)
         requires { slice_vec_len store.old + length (batch_records self.now) ≤ length (places store.old) }
         ensures same_slice { KeepsSlice store.old store.new }

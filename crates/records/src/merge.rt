@@ -12,11 +12,7 @@ use slices::SliceVec;
 pub fn count_merged<K: Copy>(column: &ListColumn<K>) -> usize
     ensures { (groups : List ℕ) → result ≡ length (column_records column.now groups) }
 {
-    // Flattened first, it takes nearly twice as long.
-    column
-        .iter()
-        .map(|list| list.map_or(0, |part| part.len()))
-        .sum()
+    column.iter().flatten().map(|part| part.len()).sum()
 }
 
 // Appends the records of all lists, each for its group, in the order of the lists.
