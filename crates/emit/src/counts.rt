@@ -6,7 +6,7 @@ ghost use Rattle.records.specs.Records.{list_of};
 use kinds::Keyed;
 use records::Record;
 
-// The number of records of groups below n. Filtering and counting takes a branch for each record, and up to three times as long.
+// The number of records of groups below n. Filtering and counting takes a branch for each record, and three times as long or more.
 pub fn count_below<K: Keyed>(records: &[Record<K>], n: u32) -> usize
     ensures { result ≡ start_in records.now n }
 {
